@@ -1,9 +1,11 @@
 //! The engine's state.
 
+use crate::about::About;
 use crate::basis_system::BasisSystem;
 use crate::limits::{BASIC_STARTS, MOST_MENDED, MOST_PIVOTS, MOST_REPAIRS, MOST_TOLD, SEED};
 use crate::pace::Pace;
 use crate::tolerances::Tolerances;
+use crate::walk::Walk;
 use ps_climb::{Draw, drawn_world};
 use ps_float_pricing::{Aim, FloatGoal, FloatPricer, Member, Priced, Relaxed, WorldPool};
 use ps_formula::World;
@@ -54,8 +56,12 @@ pub struct Engine {
     pub(crate) told: u32,
     /// How many roundings of the refutation were tried.
     pub(crate) roundings: u32,
-    /// How often the numbers of the present basis were made smaller.
-    pub(crate) shrinks: u32,
+    /// How many worlds of the present face were sought.
+    pub(crate) on_face: u32,
+    /// How many walks to smaller numbers began at the present basis.
+    pub(crate) walks: u32,
+    /// The walk that goes on.
+    pub(crate) walk: Option<Walk>,
     pub(crate) gain: FloatGoal,
     /// How far the objective is from its end, as far as is known.
     pub(crate) gap: f64,
@@ -65,8 +71,8 @@ pub struct Engine {
     draw: Draw,
 }
 
-// The kinds of a program's rows: that of the evidence first.
-fn kinds_of(alloc: Global, relaxed: &Relaxed) -> Result<Vec<RowKind>, NoMemory> {
+/// The kinds of a program's rows: that of the evidence first.
+pub(crate) fn kinds_of(alloc: Global, relaxed: &Relaxed) -> Result<Vec<RowKind>, NoMemory> {
     let mut kinds = vec![in alloc; RowKind::Equal; 1]?;
     for row in relaxed.rows() {
         kinds.push(if row.is_equation() {
@@ -122,7 +128,9 @@ impl Engine {
             mended: 0,
             told: 0,
             roundings: 0,
-            shrinks: 0,
+            on_face: 0,
+            walks: 0,
+            walk: None,
             gain: FloatGoal::new(alloc, relaxed.nodes())?,
             gap: 1.0,
             pace: Pace::steady(),
@@ -164,7 +172,7 @@ impl Engine {
         self.mended = 0;
         self.told = 0;
         self.roundings = 0;
-        self.shrinks = 0;
+        self.end_walks();
         self.gap = 1.0;
         self.pace.end();
         Ok(std::mem::replace(&mut self.pool, WorldPool::new(self.alloc)).into_members())
@@ -245,6 +253,16 @@ impl Engine {
         )
     }
 
+    // What the distributions of the program are about, for an aim.
+    pub(crate) fn about(&self, aim: Aim) -> About<'_> {
+        About {
+            relaxed: &self.relaxed,
+            pool: &self.pool,
+            given: self.given,
+            aim,
+        }
+    }
+
     // Goes to the least cost over the worlds of the pool.
     pub(crate) fn optimise(&mut self) -> bool {
         if let Some(column) = self.forced {
@@ -290,10 +308,17 @@ impl Engine {
             Priced::Spent => Ok(None),
             Priced::Found(members) => {
                 self.gap = self.greatest_gain(&members);
-                self.shrinks = 0;
+                self.end_walks();
                 Ok(Some(self.take_all(members)?))
             }
         }
+    }
+
+    // What was tried at the present basis counts no more.
+    pub(crate) fn end_walks(&mut self) {
+        self.on_face = 0;
+        self.walks = 0;
+        self.walk = None;
     }
 
     // The greatest gain of these worlds.
@@ -346,14 +371,14 @@ impl Engine {
     // Counts that worlds were told, and answers whether the guess may go on.
     pub(crate) fn may_go_on(&mut self) -> bool {
         self.told = self.told.saturating_add(1);
-        self.shrinks = 0;
+        self.end_walks();
         self.told <= MOST_TOLD
     }
 
     // Counts that the present guess is mended, and answers whether it may be.
     pub(crate) fn may_mend(&mut self) -> bool {
         self.mended = self.mended.saturating_add(1);
-        self.shrinks = 0;
+        self.end_walks();
         self.mended <= MOST_MENDED
     }
 }

@@ -1,8 +1,8 @@
 //! The guesses of an engine.
 
-use crate::basis_system::BasisSystem;
 use crate::engine::{Engine, Stage};
-use crate::limits::MOST_SHRINKS;
+use crate::limits::MOST_PARTS;
+use crate::on_face::Within;
 use crate::side::Turn;
 use crate::whole::{Values, model_of};
 use ps_answer::{Dual, Model};
@@ -11,7 +11,6 @@ use ps_float_pricing::Aim;
 use ps_formula::World;
 use ps_guesser::{Guess, Guesser, Progress};
 use ps_io::NoMemory;
-use ps_lifting::Solution;
 use ps_problem::{Problem, Query};
 
 impl Engine {
@@ -29,29 +28,62 @@ impl Engine {
         Ok(self.stage)
     }
 
-    // The distribution of a basis.
-    fn meeting(&self, system: &BasisSystem, values: &Solution) -> Result<Option<Model>, NoMemory> {
-        match model_of(self.alloc, &self.pool, Aim::Consistent, system, values)? {
-            Values::Negative => Ok(None),
-            Values::Model(whole) => Ok(Some(whole.model)),
+    // The distribution of the basis, where its numbers are small and it meets the bounds.
+    fn basic_model(&self) -> Result<Within, NoMemory> {
+        let Some(system) = self.system()? else {
+            return Ok(Within::Nothing);
+        };
+        let Some(values) = system.values()? else {
+            return Ok(Within::Nothing);
+        };
+        if !self.meets_bounds(Aim::Consistent, &system, &values)? {
+            return Ok(Within::Nothing);
+        }
+        match model_of(self.alloc, &self.pool, Aim::Consistent, &system, &values)? {
+            Values::Negative => Ok(Within::Nothing),
+            Values::Model(whole) => Ok(Within::Model(whole)),
         }
     }
 
-    // The distribution of the basis, or of others on the same face where its numbers are too large.
+    // The distribution of the basis, or before any walk one that keeps a margin.
+    fn model_here(&mut self, problem: &Problem) -> Result<Within, NoMemory> {
+        match self.basic_model()? {
+            Within::Model(whole) => Ok(Within::Model(whole)),
+            _ if self.walks > 0 => Ok(Within::Nothing),
+            _ => self.inner_model(problem),
+        }
+    }
+
+    // The same, and where there is none a part of a walk to other vertices.
+    fn model_part(&mut self, problem: &Problem) -> Result<Within, NoMemory> {
+        if self.walk.is_none() {
+            match self.model_here(problem)? {
+                Within::Against(_) | Within::Nothing => {}
+                found => return Ok(found),
+            }
+        }
+        if self.shrink(problem, Aim::Consistent)? {
+            Ok(Within::Unfinished)
+        } else {
+            Ok(Within::Nothing)
+        }
+    }
+
+    // The distribution of the basis, or where its numbers are too large one that keeps a margin, or of
+    // other vertices.
     fn small_model(&mut self, problem: &Problem) -> Result<Option<Model>, NoMemory> {
-        for round in self.pace.first()..MOST_SHRINKS {
-            if self.pace.is_due(round) {
-                self.pause(round, 0.0);
+        if self.pace.first() == 0 {
+            self.end_walks();
+        }
+        for part in self.pace.first()..MOST_PARTS {
+            if self.pace.is_part_due(part) {
+                self.pause(part, 0.0);
                 return Ok(None);
             }
-            let Some(system) = self.system()? else {
-                return Ok(None);
-            };
-            if let Some(values) = system.values()? {
-                return self.meeting(&system, &values);
-            }
-            if !self.shrink(problem, Aim::Consistent)? {
-                return Ok(None);
+            match self.model_part(problem)? {
+                Within::Model(whole) => return Ok(Some(whole.model)),
+                Within::Unfinished => {}
+                Within::Against(_) | Within::Nothing => return Ok(None),
             }
         }
         Ok(None)

@@ -2,16 +2,22 @@
 //! is claimed of its guesses; they are judged elsewhere.
 #![tactic(auto)]
 
+mod about;
 mod basis_system;
+mod elimination;
 mod engine;
 mod evidence;
+mod face;
 mod first_phase;
 mod guesses;
 mod limits;
+mod on_face;
 mod pace;
+mod rounding;
 mod shrinking;
 mod side;
 mod tolerances;
+mod walk;
 mod whole;
 
 pub use engine::Engine;

@@ -30,17 +30,32 @@ pub(crate) const BASIC_STARTS: u32 = 4;
 /// The seed of what is drawn.
 pub(crate) const SEED: u64 = 99;
 
-/// How often the numbers of a vertex are made smaller at most.
-pub(crate) const MOST_SHRINKS: u32 = 60;
+/// How many walks to smaller numbers begin at a basis at most.
+pub(crate) const MOST_WALKS: u32 = 3;
 
-/// How many pivots within a face are made at most before whole numbers are tried.
-pub(crate) const MOST_FACE_PIVOTS: u32 = 20;
+/// How many parts the walks of a verdict's distribution have at most.
+pub(crate) const MOST_PARTS: u32 = 3_000;
 
-/// How many worlds beside basic ones are taken in at most, where a face offers no pivot.
-pub(crate) const MOST_NEIGHBOURS: usize = 200;
+/// How many worlds a part of a walk looks at.
+pub(crate) const WALK_STEPS: u32 = 2_000;
 
-/// How often such worlds are taken in at most before a face is given up.
-pub(crate) const MOST_TAKEN: u32 = 10;
+/// Where guesses pause, a part of a walk counts as so many rounds.
+pub(crate) const ROUNDS_OF_A_PART: u32 = 4;
+
+/// So many worlds of a face are sought before it begins anew with them, which is a part as well.
+pub(crate) const FACE_WORLDS_OF_A_PART: u32 = 20;
+
+/// After so many a walk is cold.
+pub(crate) const COLD: u32 = 90_000;
+
+/// After so many another walk begins.
+pub(crate) const MOST_STEPS: u32 = 100_000;
+
+/// At first a walk's pivot may be above 1 by so much times the zeros that a drawn number begins with.
+pub(crate) const HOTTEST: f64 = 0.14;
+
+/// Each time the determinant is so many times as large, whole numbers are tried.
+pub(crate) const SMALLER: f64 = 0.125;
 
 /// The least entry that blocks a column within a face.
 pub(crate) const LEAST_BLOCKING: f64 = 1e-7;
@@ -50,3 +65,51 @@ pub(crate) const SMALLEST_PIVOT: f64 = 0.02;
 
 /// By so much a step within a face may be too long.
 pub(crate) const SHORTER: f64 = 1e-13;
+
+/// How often rows that a face forces to be tight join the tight ones at most.
+pub(crate) const MOST_TIGHTENED: u32 = 20;
+
+/// How many worlds of a face are sought at most, so that its margin grows.
+pub(crate) const MOST_ON_FACE: u32 = 200;
+
+/// The margin of a face is at most so much of the evidence.
+pub(crate) const LARGEST_MARGIN: f64 = 0.01;
+
+/// A margin above this is large enough.
+pub(crate) const WIDE_MARGIN: f64 = 1e-4;
+
+/// One of at most this is none.
+pub(crate) const LEAST_MARGIN: f64 = 1e-9;
+
+/// Where there is no margin, a face forces a row of a larger price to be tight.
+pub(crate) const FORCED_TIGHT: f64 = 1e-7;
+
+/// What a world costs that isn't on a face, where the margin counts 1.
+pub(crate) const OFF_FACE: f64 = 1000.0;
+
+/// A value within a face that is at most this is left out.
+pub(crate) const LEAST_VALUE: f64 = 1e-12;
+
+/// An equation isn't solved for an unknown whose entry is at most this.
+pub(crate) const LEAST_ENTRY: f64 = 1e-7;
+
+/// Nor for one whose entry times its value is at most this.
+pub(crate) const LEAST_WEIGHED: f64 = 1e-9;
+
+/// So much is added to each value where entries are weighed.
+pub(crate) const SMALL_VALUE: f64 = 1e-6;
+
+/// Values are rounded to multiples of one over this first.
+pub(crate) const COARSEST: i64 = 256;
+
+/// Each rounding is so many times finer than the one before.
+pub(crate) const FINER: i64 = 16;
+
+/// How many roundings of a face's values are tried.
+pub(crate) const ROUNDINGS: u32 = 7;
+
+/// The largest value that is rounded.
+pub(crate) const LARGEST_VALUE: f64 = 1e14;
+
+/// The largest sum of the weights of a distribution.
+pub(crate) const LARGEST_TOTAL: i128 = 1 << 90;

@@ -1,5 +1,6 @@
 //! The pace of an engine.
 
+use crate::limits::ROUNDS_OF_A_PART;
 use ps_guesser::Progress;
 
 /// After how many rounds a guess pauses, and how far the one that paused is.
@@ -46,6 +47,16 @@ impl Pace {
     /// Whether the guess pauses before this round.
     pub(crate) fn is_due(&self, round: u32) -> bool {
         round.saturating_sub(self.rounds) >= self.every
+    }
+
+    /// How many parts of a walk a call makes: a part counts as four rounds.
+    pub(crate) fn parts(&self) -> u32 {
+        (self.every / ROUNDS_OF_A_PART).max(1)
+    }
+
+    /// Whether the guess pauses before this part of a walk.
+    pub(crate) fn is_part_due(&self, part: u32) -> bool {
+        part.saturating_sub(self.rounds) >= self.parts()
     }
 
     /// The guess pauses before this round.

@@ -2,9 +2,9 @@
 
 use crate::basis_system::BasisSystem;
 use crate::engine::Engine;
-use crate::limits::{ENOUGH_EVIDENCE, MOST_REPAIRS, MOST_ROUNDS, MOST_SHRINKS};
+use crate::limits::{ENOUGH_EVIDENCE, MOST_REPAIRS, MOST_ROUNDS};
 use crate::whole::{Prices, Values, WholeModel, extreme, model_of, multipliers_of};
-use ps_float_pricing::{Aim, Goal, Member, Multipliers};
+use ps_float_pricing::{Aim, Goal, Multipliers};
 use ps_guesser::Guess;
 use ps_io::NoMemory;
 use ps_problem::Problem;
@@ -23,7 +23,7 @@ pub(crate) enum Turn {
     TooLarge,
     /// There is no guess.
     GiveUp,
-    /// The rounds of this call are made, and others are left.
+    /// The rounds or parts of this call are made, and others are left.
     Pause,
 }
 
@@ -62,13 +62,16 @@ impl Engine {
         aim: Aim,
         is_evidence: bool,
     ) -> Result<Turn, NoMemory> {
+        if self.walks > 0 || self.on_face > 0 {
+            return self.whole_turn(problem, aim);
+        }
         if !self.optimise() && !self.may_mend() {
             return Ok(Turn::GiveUp);
         }
         if is_evidence && self.has_enough() {
             return Ok(Turn::Enough);
         }
-        let is_trivial = is_trivial(aim, self.simplex.objective(), self.tolerances.trivial);
+        let is_trivial = self.is_trivial(aim);
         if !is_trivial {
             // What a short search leaves open, the trial of the guess decides.
             match self.price(problem, aim, self.tolerances.least_gain, false)? {
@@ -104,32 +107,45 @@ impl Engine {
         Turn::Again
     }
 
-    // Whole numbers from the basis, and where they are too large, from others on the same face.
+    // Whole numbers from the basis, and where they are too large, from others on the same face, by parts.
     fn whole_turn(&mut self, problem: &Problem, aim: Aim) -> Result<Turn, NoMemory> {
-        for _ in 0..self.pace.every {
-            match self.whole_guess(aim)? {
-                Turn::TooLarge => {
-                    self.shrinks = self.shrinks.saturating_add(1);
-                    if self.shrinks > MOST_SHRINKS || !self.shrink(problem, aim)? {
-                        return Ok(Turn::GiveUp);
-                    }
-                }
+        for _ in 0..self.pace.parts() {
+            match self.whole_part(problem, aim)? {
+                Turn::Pause => {}
                 turn => return Ok(turn),
             }
         }
         Ok(Turn::Pause)
     }
 
+    // Where no walk goes on whole numbers from the basis, and where they are too large, a part of a walk.
+    fn whole_part(&mut self, problem: &Problem, aim: Aim) -> Result<Turn, NoMemory> {
+        if self.walk.is_none() {
+            match self.whole_guess(problem, aim)? {
+                Turn::TooLarge => {}
+                turn => return Ok(turn),
+            }
+        }
+        if self.shrink(problem, aim)? {
+            Ok(Turn::Pause)
+        } else {
+            Ok(Turn::GiveUp)
+        }
+    }
+
     // Whole numbers from the basis.
-    fn whole_guess(&mut self, aim: Aim) -> Result<Turn, NoMemory> {
+    fn whole_guess(&mut self, problem: &Problem, aim: Aim) -> Result<Turn, NoMemory> {
         let Some(system) = self.system()? else {
             return Ok(self.perturb());
         };
         let Some(values) = system.values()? else {
-            return Ok(Turn::TooLarge);
+            return self.guess_on_face(problem, aim, &system);
         };
         match model_of(self.alloc, &self.pool, aim, &system, &values)? {
             Values::Negative => Ok(self.perturb()),
+            Values::Model(_) if !self.meets_bounds(aim, &system, &values)? => {
+                self.guess_on_face(problem, aim, &system)
+            }
             Values::Model(whole) => self.guess_from(aim, &system, whole),
         }
     }
@@ -158,7 +174,7 @@ impl Engine {
     }
 
     // Lets a column enter the basis in the next turn.
-    fn force(&mut self, column: Column) -> Turn {
+    pub(crate) fn force(&mut self, column: Column) -> Turn {
         if !self.may_mend() {
             return Turn::GiveUp;
         }
@@ -177,7 +193,7 @@ impl Engine {
         if !self.relaxed.outweigh(&mut goal, &mut multipliers) {
             return Ok(Turn::GiveUp);
         }
-        match place_against(self.pool.members(), &goal) {
+        match self.place_against(&goal) {
             Some(place) => Ok(self.force(Column::Added(place))),
             None => Ok(Turn::Guess(Guess {
                 model: whole.model,
@@ -185,14 +201,25 @@ impl Engine {
             })),
         }
     }
-}
 
-// The place of a world in which the combination is at least 1.
-fn place_against(members: &[Member], goal: &Goal) -> Option<usize> {
-    (0..members.len()).find(|place| match members.get(*place) {
-        Some(member) => goal.value(&member.truth) >= 1,
-        None => false,
-    })
+    // The place of a world of the pool in which the combination is at least 1.
+    pub(crate) fn place_against(&self, goal: &Goal) -> Option<usize> {
+        let members = self.pool.members();
+        (0..members.len()).find(|place| match members.get(*place) {
+            Some(member) => goal.value(&member.truth) >= 1,
+            None => false,
+        })
+    }
+
+    // Whether the objective is so near to the least possible one that no world need be sought.
+    pub(crate) fn is_trivial(&self, aim: Aim) -> bool {
+        let objective = self.simplex.objective();
+        match aim {
+            Aim::Consistent => false,
+            Aim::Least(_) => objective < self.tolerances.trivial,
+            Aim::Greatest(_) => objective < self.tolerances.trivial - 1.0,
+        }
+    }
 }
 
 // By how much an objective may still fall at most.
@@ -200,14 +227,5 @@ fn room_of(aim: Aim, objective: f64) -> f64 {
     match aim {
         Aim::Consistent | Aim::Least(_) => objective,
         Aim::Greatest(_) => objective + 1.0,
-    }
-}
-
-// Whether an objective is so near to the least possible one that no world need be sought.
-fn is_trivial(aim: Aim, objective: f64, tolerance: f64) -> bool {
-    match aim {
-        Aim::Consistent => false,
-        Aim::Least(_) => objective < tolerance,
-        Aim::Greatest(_) => objective < tolerance - 1.0,
     }
 }

@@ -27,7 +27,8 @@ pub(crate) struct WholeModel {
 }
 
 impl WholeModel {
-    fn new(alloc: Global) -> WholeModel {
+    /// Without worlds.
+    pub(crate) fn new(alloc: Global) -> WholeModel {
         WholeModel {
             model: Model {
                 total: 0,
@@ -38,8 +39,8 @@ impl WholeModel {
         }
     }
 
-    // Adds a world.
-    fn add(
+    /// Adds a world.
+    pub(crate) fn add(
         &mut self,
         alloc: Global,
         aim: Aim,
