@@ -96,3 +96,11 @@ pub no_explanation_open : (limits : Limits) (bytes : List ℕ) (o : Output) (p :
     → IsExplainedBy (limits_for limits true p) bytes o p e → IsExplanationNotForPivots e
 no_explanation_open limits bytes o p e few h =
     explanation_enough (limits_for limits true p) p e (let same = min-eq_left few in omega (arith, same)) h.right
+
+-- whatever set the limit
+pub none_open_at : (limits : Limits) (bytes : List ℕ) (o : Output) (p : Parts) (a : Answer) → IsEnough (sentences_of p) limits.pivots → IsSolvedBy limits bytes o p a → HasNoPivotsCause a
+none_open_at limits bytes o p a many h = h.enough many
+
+pub no_explanation_open_at : (limits : Limits) (bytes : List ℕ) (o : Output) (p : Parts) (e : Explained) → IsEnough (sentences_of p) limits.pivots → IsExplainedBy limits bytes o p e
+    → IsExplanationNotForPivots e
+no_explanation_open_at limits bytes o p e many h = explanation_enough limits p e many h.right

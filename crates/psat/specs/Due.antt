@@ -231,3 +231,13 @@ IsExplanationNotForPivots (explained.Open sentences cause first) = IsOtherThanPi
 abbrev pub EnoughLeavesNoExplanationOpen : Type 0
 EnoughLeavesNoExplanationOpen = (limits : Limits) (bytes : List ℕ) (o : Output) (p : Parts) (e : Explained)
     → enough_for p ≤ MOST_PIVOTS → IsExplainedBy (limits_for limits true p) bytes o p e → IsExplanationNotForPivots e
+
+-- whatever words set, no part of a due answer is open for pivots where their number is enough
+abbrev pub ManyPivotsLeaveNoneOpen : Type 0
+ManyPivotsLeaveNoneOpen = (limits : Limits) (bytes : List ℕ) (o : Output) (p : Parts) (a : Answer)
+    → IsEnough (sentences_of p) limits.pivots → IsSolvedBy limits bytes o p a → HasNoPivotsCause a
+
+-- nor is a due explanation
+abbrev pub ManyPivotsLeaveNoExplanationOpen : Type 0
+ManyPivotsLeaveNoExplanationOpen = (limits : Limits) (bytes : List ℕ) (o : Output) (p : Parts) (e : Explained)
+    → IsEnough (sentences_of p) limits.pivots → IsExplainedBy limits bytes o p e → IsExplanationNotForPivots e

@@ -12,6 +12,7 @@ ghost use Rattle.psat.specs.Answering.{FaultlessRunsAnswer, ProblemsAreExplained
 ghost use Rattle.psat.specs.Answering.{ProblemsAreSolved, ReportsAreJudged};
 ghost use Rattle.psat.specs.Commands.{Spell};
 ghost use Rattle.psat.specs.Due.{EnoughLeavesNoExplanationOpen, EnoughLeavesNoneOpen};
+ghost use Rattle.psat.specs.Due.{ManyPivotsLeaveNoExplanationOpen, ManyPivotsLeaveNoneOpen};
 ghost use Rattle.psat.specs.Due.{OneOutputIsDue};
 
 /// For words and bytes at most one output is due, but for the words of `solve`, `explain` and
@@ -32,10 +33,12 @@ pub fn reports_are_accepted()
 {}
 
 /// With `--pivots enough`, where that number is at most the most, no part of a due answer is open for
-/// pivots, and no due explanation is.
+/// pivots, and no due explanation is; nor with any number of pivots that is enough.
 pub fn enough_pivots_leave_none_open()
     ensures answer { EnoughLeavesNoneOpen }
     ensures explanation { EnoughLeavesNoExplanationOpen }
+    ensures any_answer { ManyPivotsLeaveNoneOpen }
+    ensures any_explanation { ManyPivotsLeaveNoExplanationOpen }
 {}
 
 /// Where no call of the source or the sink fails, a run answers what is due, or there was not
