@@ -12,4 +12,5 @@ pub mod FoundInputs
 pub mod RunLaws
 pub mod OpenParts
 pub mod EnoughPivots
+pub mod ManyConflicts
 pub mod Answering

@@ -5,6 +5,7 @@ pub mod Words
 pub mod RunLimits
 pub mod Summaries
 pub mod Due
+pub mod Conflicts
 pub mod Accepting
 pub mod Runs
 pub mod Answering

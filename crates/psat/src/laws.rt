@@ -11,6 +11,8 @@ ghost use Rattle.psat.specs.Accepting.{OneAnswerIsDue, ReportsAreAccepted};
 ghost use Rattle.psat.specs.Answering.{FaultlessRunsAnswer, ProblemsAreExplained, ProblemsAreMade};
 ghost use Rattle.psat.specs.Answering.{ProblemsAreSolved, ReportsAreJudged};
 ghost use Rattle.psat.specs.Commands.{Spell};
+ghost use Rattle.psat.specs.Conflicts.{ManyConflictsLeaveNoExplanationOpen};
+ghost use Rattle.psat.specs.Conflicts.{ManyConflictsLeaveNoneOpen, ManyConflictsLeaveNoneOpenOfMade};
 ghost use Rattle.psat.specs.Due.{EnoughLeavesNoExplanationOpen, EnoughLeavesNoneOpen};
 ghost use Rattle.psat.specs.Due.{ManyPivotsLeaveNoExplanationOpen, ManyPivotsLeaveNoneOpen};
 ghost use Rattle.psat.specs.Due.{OneOutputIsDue};
@@ -39,6 +41,14 @@ pub fn enough_pivots_leave_none_open()
     ensures explanation { EnoughLeavesNoExplanationOpen }
     ensures any_answer { ManyPivotsLeaveNoneOpen }
     ensures any_explanation { ManyPivotsLeaveNoExplanationOpen }
+{}
+
+/// With a limit of conflicts of 2 to the number of the problem's nodes, or more, no part of a due
+/// answer is open for conflicts, no due explanation is, and no part of an answer that `make` sums up.
+pub fn many_conflicts_leave_none_open()
+    ensures answer { ManyConflictsLeaveNoneOpen }
+    ensures explanation { ManyConflictsLeaveNoExplanationOpen }
+    ensures made { ManyConflictsLeaveNoneOpenOfMade }
 {}
 
 /// Where no call of the source or the sink fails, a run answers what is due, or there was not
