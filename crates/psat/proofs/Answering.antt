@@ -69,7 +69,7 @@ explained_whole limits enough bytes p o spells (NoneExplained kind at u is) =
     let same = one_whole_reading bytes (Read p (length bytes)) (Unread kind at) (spells, refl) u in absurd (cc)
 
 -- what holds of what is due holds of what was written
-written_so : (words : List (String Global)) (c : Command) (old new : Ends) (s : Status) (bytes : List ℕ) (D : Output → Type 0) → Spell (words_of words) c → IsFaultless words old new s
+pub written_so : (words : List (String Global)) (c : Command) (old new : Ends) (s : Status) (bytes : List ℕ) (D : Output → Type 0) → Spell (words_of words) c → IsFaultless words old new s
     → old.source.bytes ≡ Some bytes → ((o : Output) → DueFor c bytes o → D o) → HasWritten D s old new ⊎ IsOutOfMemory s old new
 written_so words c old new s bytes D spelled h e due =
     elim (faultless_answer words old new s bytes h (record { told = λ d other. told d old.source.bytes bytes e })) [

@@ -14,3 +14,4 @@ pub mod OpenParts
 pub mod EnoughPivots
 pub mod ManyConflicts
 pub mod Answering
+pub mod AcceptedRuns

@@ -74,7 +74,7 @@ one_unexplained limits enough bytes o o' none (NoneExplained kind at u is) (None
     let l : at ≡ there = cc in
     is ∙ ap (λ x. unreadable x at) k ∙ ap (λ x. unreadable other x) l ∙ sym is'
 
-one_for_command : (c : Command) (bytes : List ℕ) (o o' : Output) → IsSingle c bytes → DueFor c bytes o → DueFor c bytes o' → o ≡ o'
+pub one_for_command : (c : Command) (bytes : List ℕ) (o o' : Output) → IsSingle c bytes → DueFor c bytes o → DueFor c bytes o' → o ≡ o'
 one_for_command (commands.Check limit) bytes o o' single d e = one_within limit DueText bytes o o' (λ few. one_text bytes o o') d e
 one_for_command (commands.Solve limits enough) bytes o o' single d e = one_within MOST_PROBLEM (DueAnswered limits enough) bytes o o' (λ few. one_unread limits enough bytes o o' (λ p. single p few)) d e
 one_for_command (commands.Explain limits enough) bytes o o' single d e =

@@ -9,6 +9,7 @@ pub mod Conflicts
 pub mod Accepting
 pub mod Runs
 pub mod Answering
+pub mod AcceptedRuns
 pub mod Exits
 -- Bridge: what the words behind a command's name set, and what a reply stands for
 pub mod Settings

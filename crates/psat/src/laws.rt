@@ -8,6 +8,7 @@ ghost use Rattle.ps_answer.specs.declared.limits.TheConstants.{MOST_PIVOTS};
 ghost use Rattle.ps_log.specs.declared.limits.TheConstants.{MOST_CONFLICTS};
 ghost use Rattle.ps_make.specs.declared.made.TheConstants.{MOST_LINKS};
 ghost use Rattle.psat.specs.Accepting.{OneAnswerIsDue, ReportsAreAccepted};
+ghost use Rattle.psat.specs.AcceptedRuns.{SolvedRunsAreAccepted};
 ghost use Rattle.psat.specs.Answering.{FaultlessRunsAnswer, ProblemsAreExplained, ProblemsAreMade};
 ghost use Rattle.psat.specs.Answering.{ProblemsAreSolved, ReportsAreJudged};
 ghost use Rattle.psat.specs.Commands.{Spell};
@@ -29,9 +30,12 @@ pub fn one_output_is_due()
 
 /// Behind the problem's text and a line feed, a report that is due for `solve` is accepted by
 /// `check`, where nothing is open or the pivots were fewer than the most, and all of it is within
-/// the limit of `check`.
+/// the limit of `check`. Of two runs in which no call failed and memory sufficed: what that of
+/// `solve` wrote of its input is such a report, and where that of `check` was given the input, a line
+/// feed and what was written, it wrote that it accepts it, and ended as done.
 pub fn reports_are_accepted()
-    ensures { ReportsAreAccepted }
+    ensures due { ReportsAreAccepted }
+    ensures runs { SolvedRunsAreAccepted }
 {}
 
 /// With `--pivots enough`, where that number is at most the most, no part of a due answer is open for
