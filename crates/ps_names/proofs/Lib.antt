@@ -1,0 +1,4 @@
+-- Lemmas on names
+mod Plain
+mod Narrow
+mod Fronts

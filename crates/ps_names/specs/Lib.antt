@@ -1,0 +1,2 @@
+-- Meaning: names as a terminal can be given them
+pub mod Names
