@@ -1,12 +1,40 @@
 //! What is beside an answer: the clock, where time is limited, and standard error.
+use crate::number::number_within;
 use crate::progress::{figures_of, words_of};
 use ps_ask::{ClaimKind, Company, Progress, Sought, Watch};
+use std::env;
 use std::io::IsTerminal;
 use std::time::{Duration, Instant};
 
-/// More blanks than a usual line has that tells how far an answer is, between returns to its start.
-const BLANK: &str =
-    "\r                                                                              \r";
+/// The columns of a terminal that doesn't tell them.
+const USUAL_COLUMNS: usize = 80;
+
+/// The most columns that are taken for those of a terminal.
+const MOST_COLUMNS: u64 = 1000;
+
+// The columns of the terminal, as the environment tells them.
+fn columns_told(rt: &HostRuntime) -> usize {
+    let Ok(word) = env::var(rt, "COLUMNS") else {
+        return USUAL_COLUMNS;
+    };
+    match number_within(word.as_str(), 1, MOST_COLUMNS) {
+        Some(columns) => columns as usize,
+        None => USUAL_COLUMNS,
+    }
+}
+
+// Whether the terminal can move its cursor back, as far as the environment tells.
+fn moves_cursor(rt: &HostRuntime) -> bool {
+    match env::var(rt, "TERM") {
+        Ok(word) => word.as_str() != "dumb",
+        Err(_) => true,
+    }
+}
+
+// The front of a line in ASCII that has so many columns at most.
+fn front_of(line: &str, columns: usize) -> &str {
+    line.get(..columns).unwrap_or(line)
+}
 
 /// What is beside the answer to a problem.
 #[derive(Drop)]
@@ -17,24 +45,31 @@ pub struct Beside<'a> {
     limit: Option<Duration>,
     start: Option<Instant>,
     is_over: bool,
-    // Whether standard error is a terminal, where a line tells how far the answer is.
-    is_terminal: bool,
-    is_told: bool,
+    // The columns of the line that tells how far the answer is; none where it isn't told.
+    columns: Option<usize>,
+    // How many of them were told.
+    told: usize,
     sought: Sought,
 }
 
 impl<'a> Beside<'a> {
-    /// Beside an answer that may take so many seconds, where that is limited. They are counted from
+    /// Beside an answer that may take so many seconds, where that is limited, and whose line of progress
+    /// is told where that is wanted and standard error is a terminal that can. The seconds are counted from
     /// when it is first asked whether they are over: an answer asks once its problem is read. A clock
     /// that can't be read ends it at once.
-    pub fn new(rt: &'a HostRuntime, seconds: Option<u64>) -> Beside<'a> {
+    pub fn new(rt: &'a HostRuntime, seconds: Option<u64>, tells: bool) -> Beside<'a> {
+        let is_line_told = tells && rt.stderr().is_terminal() && moves_cursor(rt);
         Beside {
             rt,
             limit: seconds.map(Duration::from_secs),
             start: None,
             is_over: false,
-            is_terminal: rt.stderr().is_terminal(),
-            is_told: false,
+            columns: if is_line_told {
+                Some(columns_told(rt))
+            } else {
+                None
+            },
+            told: 0,
             sought: Sought::Verdict,
         }
     }
@@ -51,16 +86,22 @@ impl<'a> Beside<'a> {
         }
     }
 
-    // Writes the line that tells what is sought, and how far it is.
+    // Writes the line that tells what is sought, and how far it is, as much of it as has room. The
+    // cursor goes back to its start, so that what is written next stands over it.
     fn write_line(&mut self, figures: &str) {
-        if !self.is_terminal {
+        let Some(columns) = self.columns else {
             return;
-        }
+        };
         self.clear();
-        if let Ok(words) = words_of(self.rt.alloc(), self.sought) {
-            let _ = eprint!(self.rt; "{words}{figures}");
-        }
-        self.is_told = true;
+        let Ok(words) = words_of(self.rt.alloc(), self.sought) else {
+            return;
+        };
+        let Ok(line) = format!(in self.rt.alloc(); "{words}{figures}") else {
+            return;
+        };
+        let shown = front_of(line.as_str(), columns.saturating_sub(1));
+        let _ = eprint!(self.rt; "{shown}\r");
+        self.told = shown.len();
     }
 }
 
@@ -95,9 +136,11 @@ impl<'a> Company for Beside<'a> {
     }
 
     fn clear(&mut self) {
-        if self.is_told {
-            let _ = eprint!(self.rt; "{BLANK}");
-            self.is_told = false;
+        if self.told > 0 {
+            if let Ok(blanks) = " ".repeat(self.rt.alloc(), self.told) {
+                let _ = eprint!(self.rt; "\r{blanks}\r");
+            }
+            self.told = 0;
         }
     }
 }

@@ -3,12 +3,17 @@
 
 mod answering;
 mod company;
+mod inlet;
+mod meant;
 mod number;
 mod options;
 mod progress;
+mod reasons;
 mod refused;
 mod report_file;
 mod request;
+mod same_file;
+mod telling;
 #[cfg(test)]
 mod tests;
 mod texts;
@@ -21,6 +26,7 @@ ghost use Rattle.psat_ask.specs.Requests.{HasSettings};
 use crate::answering::{answer_all, show};
 use crate::refused::{Refused, WRONG_WORDS};
 use crate::request::{Request, request_of};
+use crate::telling::tell_fault;
 use crate::texts::{HELP, VERSION};
 use std::alloc::Global;
 use std::env::{self, Args};
@@ -47,7 +53,7 @@ fn request_behind_name(alloc: Global, all: io::Result<Args>) -> Result<Request, 
 fn tell_refused(rt: &HostRuntime, refused: &Refused) {
     let _ = eprintln!(rt; "psat_ask: {refused}");
     if refused.status() == WRONG_WORDS {
-        let _ = eprintln!(rt; "psat_ask: --help shows the options");
+        tell_fault(rt, "--help shows the options");
     }
 }
 

@@ -2,6 +2,7 @@
 ghost use Rattle.std.specs.Prelude.{◌≡◌};
 
 use ps_ask::Status;
+use ps_io::NoMemory;
 use std::alloc::{AllocError, AllocFailed};
 use std::io::ErrorKind;
 use thiserror::Error;
@@ -18,9 +19,12 @@ pub enum Refused {
     /// What is wrong with the words.
     #[error("{0}")]
     Wrong(&'static str),
-    /// They have an option that isn't known.
+    /// They have an option that isn't known, as names are shown.
     #[error("the option {0} is unknown")]
     Unknown(String),
+    /// They have one that isn't known, and is close to one that is.
+    #[error("the option {0} is unknown; is {1} meant?")]
+    Misspelt(String, &'static str),
     /// The system doesn't hand them out, since one of them isn't UTF-8.
     #[error("an argument isn't UTF-8")]
     NotText,
@@ -51,7 +55,7 @@ impl Refused {
         ensures { result ≡ refused_number self.now }
     {
         match self {
-            Refused::Wrong(_) | Refused::Unknown(_) => WRONG_WORDS,
+            Refused::Wrong(_) | Refused::Unknown(_) | Refused::Misspelt(..) => WRONG_WORDS,
             Refused::NotText | Refused::NoWords => NO_WORDS,
             Refused::NoMemory => Status::NoMemory.number(),
         }
@@ -60,6 +64,12 @@ impl Refused {
 
 impl From<AllocError> for Refused {
     fn from(_: AllocError) -> Refused {
+        Refused::NoMemory
+    }
+}
+
+impl From<NoMemory> for Refused {
+    fn from(_: NoMemory) -> Refused {
         Refused::NoMemory
     }
 }

@@ -4,6 +4,7 @@ ghost use Rattle.ps_ask.specs.Shown.{AreSettings};
 ghost use Rattle.psat_ask.specs.Options.{TakesStyle};
 ghost use Rattle.psat_ask.specs.Requests.{HasSettings};
 
+use crate::meant::unknown;
 use crate::options::{Valued, default_settings, option_named, seconds_of, with_style, with_value};
 use crate::refused::Refused;
 use crate::texts::{NO_REPORT, ONE_REPORT, OWN_REPORT, STYLES, TWO_REPORTS, WRONG_TIME};
@@ -30,6 +31,8 @@ pub struct Asked {
     pub report: Option<String>,
     /// How many seconds a problem may take, where that is limited.
     pub seconds: Option<u64>,
+    /// Whether a terminal is told how far the answer is.
+    pub tells_progress: bool,
     /// The files of the problems; `-` is standard input.
     pub files: Vec<String>,
 }
@@ -84,11 +87,11 @@ impl Reading {
         if value.is_empty() {
             return Err(Refused::Wrong(NO_REPORT));
         }
+        if self.asked.report.is_some() || self.asked.settings.style == Style::Report {
+            return Err(Refused::Wrong(TWO_REPORTS));
+        }
         if value == "-" {
             return self.style(Style::Report);
-        }
-        if self.asked.report.is_some() {
-            return Err(Refused::Wrong(TWO_REPORTS));
         }
         self.asked.report = Some(String::from_str(alloc, value)?);
         self.asked.settings.reports = true;
@@ -141,7 +144,8 @@ impl Reading {
             "--json" => self.style(Style::Json)?,
             "--no-warnings" => self.asked.settings.warns = false,
             "--" => self.is_plain = true,
-            _ => return Err(Refused::Unknown(String::from_str(alloc, word)?)),
+            "--no-progress" => self.asked.tells_progress = false,
+            _ => return Err(unknown(alloc, word)),
         }
         Ok(None)
     }
@@ -209,6 +213,7 @@ pub fn request_of(alloc: Global, words: &[String]) -> Result<Request, Refused>
             settings: default_settings(),
             report: None,
             seconds: None,
+            tells_progress: true,
             files: Vec::new(alloc),
         },
         pending: None,

@@ -168,8 +168,20 @@ fn words_ask_for_texts(rt: HostRuntime) {
     assert!(rt; texts_are_asked(rt.alloc()));
 }
 
+// Whether words ask for the line of progress.
+fn tells_progress(alloc: Global, words: &[&'static str]) -> Option<bool> {
+    Some(asked(alloc, words)?.tells_progress)
+}
+
+#[test]
+fn progress_is_left_out(rt: HostRuntime) {
+    let alloc = rt.alloc();
+    assert!(rt; tells_progress(alloc, &["--no-progress"]) == Some(false));
+    assert!(rt; tells_progress(alloc, &["a"]) == Some(true));
+}
+
 // Words that ask for nothing, and what is said of them.
-const FAULTS: [(&[&'static str], &str); 14] = [
+const FAULTS: [(&[&'static str], &str); 19] = [
     (&["--digits", "19"], "--digits takes a number from 1 to 18"),
     (&["--digits=0"], "--digits takes a number from 1 to 18"),
     (&["--digits=+5"], "--digits takes a number from 1 to 18"),
@@ -204,7 +216,15 @@ const FAULTS: [(&[&'static str], &str); 14] = [
         &["--report", "a", "a"],
         "--report FILE is the problem's file",
     ),
-    (&["--quite", "a"], "the option --quite is unknown"),
+    (&["--report", "r", "--report", "-"], "--report stands twice"),
+    (&["--report", "-", "--report", "r"], "--report stands twice"),
+    (&["--report", "-", "--report=-"], "--report stands twice"),
+    (
+        &["--quite", "a"],
+        "the option --quite is unknown; is --quiet meant?",
+    ),
+    (&["--colour", "a"], "the option --colour is unknown"),
+    (&["--\u{202e}x=1", "a"], "the option --?x=1 is unknown"),
 ];
 
 // Whether this is said of words.

@@ -5,18 +5,26 @@ pub const HELP: &str = "Answers problems of probabilistic logic in words and num
 
 Usage: psat_ask [OPTIONS] [FILE]..
 
-Each FILE holds a problem. Without one, and for -, standard input is read.
+Each FILE holds a problem. Without one, and for -, standard input is read. A problem:
+
+    psat 1;
+    P(rain) = 0.7;
+    P(wet given rain) >= 0.9;
+    query P(wet);
+    end;
 
 Options:
   --digits N      digits of decimals behind the point, 1 to 18 (6)
   --quiet         the verdict and the values alone
   --json          one JSON object for each problem, on one line
-  --report FILE   write the report that psat check accepts to FILE as well
+  --report FILE   write the report that psat check accepts to FILE as well, whole or
+                  not at all
   --report -      write that report alone
   --pivots N      the most pivots of a run, 0 to 1000000 (10000)
   --conflicts N   the most conflicts of a search, 0 to 1099511627776 (20000)
   --time-limit N  begin no further step after N seconds for a problem, 1 to 86400
   --no-warnings   no warnings
+  --no-progress   no line on a terminal that tells how far the answer is
   --help, -h      this text
   --version, -V   the version
   --              only files behind it
@@ -33,7 +41,12 @@ Exit status, with several files the greatest:
   6  writing failed
   7  not enough memory
   10 the arguments can't be had, or one isn't UTF-8; no input was read
+
+man psat_ask tells more.
 ";
+
+/// What is told where a problem is read from a terminal.
+pub const AWAITED: &str = "reading the problem from the terminal; Ctrl-D ends it";
 
 /// What `--version` shows.
 pub const VERSION: &str = "psat_ask 1\n";
