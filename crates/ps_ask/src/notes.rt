@@ -1,6 +1,7 @@
 //! Notes for people beside what is shown: messages about bytes that are no problem, and warnings.
 use ps_hints::{refusal_message, write_warnings};
 use ps_io::NoMemory;
+use ps_names::shown_name;
 use ps_problem::Problem;
 use ps_read::ReadKind;
 use std::alloc::Global;
@@ -26,8 +27,9 @@ pub fn refusal_noted(
     Ok(Vec::from_slice(alloc, text.as_bytes())?)
 }
 
-/// What is noted of an input with more bytes than the limit.
+/// What is noted of an input with more bytes than the limit, under its name as names are shown.
 pub fn length_noted(alloc: Global, name: &str, limit: u64) -> Result<Vec<u8>, NoMemory> {
+    let name = shown_name(alloc, name)?;
     let text = format!(in alloc; "{name}: the input has more than {limit} bytes\n")?;
     Ok(Vec::from_slice(alloc, text.as_bytes())?)
 }
