@@ -1,3 +1,5 @@
+mod Atoms
+mod Blanks
 mod Fronts
 mod Harmless
 mod Lines

@@ -15,3 +15,7 @@ AreClose a b = (1 ≤ edits a b) × (edits a b ≤ 2)
 unfoldable pub IsMeantBy : List (List ℕ) → ℕ → List ℕ → Type 0
 IsMeantBy names atom meant = (other : ℕ) × (name : List ℕ) × (slice_get names other ≡ Some meant)
     × (slice_get names atom ≡ Some name) × AreClose name meant
+
+-- some name may be meant by the atom's
+abbrev pub IsMistyped : List (List ℕ) → ℕ → Type 0
+IsMistyped names atom = (meant : List ℕ) × IsMeantBy names atom meant

@@ -4,23 +4,40 @@ ghost use Rattle.ps_hints.specs.Hints.{IsHintFor};
 ghost use Rattle.ps_text.specs.declared.kind.ReadKind.TheVariants as kind;
 
 use crate::hint::Hint;
+use crate::items::Item;
+use crate::letter_hints::letter_hint;
 use crate::spot::Spot;
+use crate::words::is_word_byte;
 
 // Whether a byte is a digit.
 fn is_digit(byte: Option<u8>) -> bool {
     matches!(byte, Some(b) if b.is_ascii_digit())
 }
 
-// Whether a byte is a letter.
-fn is_letter(byte: Option<u8>) -> bool {
-    matches!(byte, Some(b) if b.is_ascii_alphabetic())
+// Whether a byte may stand in a name.
+fn is_of_name(byte: Option<u8>) -> bool {
+    matches!(byte, Some(b) if is_word_byte(b))
+}
+
+// Whether the number behind which the spot is has its point, as `0.3` and not as `3`.
+fn is_behind_decimal(spot: &Spot) -> bool {
+    match spot.before.iter().rposition(|byte| !byte.is_ascii_digit()) {
+        Some(last) => spot.before[last] == b'.',
+        None => false,
+    }
 }
 
 // A hint for a point.
 fn point(spot: &Spot) -> Hint
     ensures { IsHintFor result kind.BadByte }
 {
-    if is_digit(spot.last()) {
+    if spot.begins("..") {
+        Hint::Interval
+    } else if spot.follows("end") {
+        Hint::End
+    } else if is_behind_decimal(spot) {
+        Hint::Semicolon
+    } else if is_digit(spot.last()) {
         Hint::PointLast
     } else if is_digit(spot.second()) {
         Hint::PointFirst
@@ -29,12 +46,25 @@ fn point(spot: &Spot) -> Hint
     }
 }
 
-// A hint for a minus.
-fn minus(spot: &Spot) -> Hint
+// A hint for a minus or a dash, with the byte behind it.
+fn minus(spot: &Spot, behind: Option<u8>) -> Hint
     ensures { IsHintFor result kind.BadByte }
 {
-    if is_letter(spot.last()) && is_letter(spot.second()) {
+    let item = Item::before(spot);
+    if behind == Some(b'>') || spot.begins("-->") {
+        Hint::Implies
+    } else if spot.begins("--") {
+        Hint::Comment
+    } else if item.is_in_interval() {
+        Hint::Interval
+    } else if is_of_name(behind) && is_of_name(spot.last()) && item.is_in_formula() {
         Hint::Hyphen
+    } else if item.is_in_formula() {
+        Hint::Negative
+    } else if spot.byte_before() == Some(b')') {
+        Hint::Linear
+    } else if is_digit(spot.byte_before()) {
+        Hint::Arithmetic
     } else {
         Hint::Negative
     }
@@ -45,25 +75,78 @@ fn slash(spot: &Spot) -> Hint
     ensures { IsHintFor result kind.BadByte }
 {
     match spot.second() {
+        Some(b'\\') => Hint::And,
         Some(b'/' | b'*') => Hint::Comment,
+        _ if spot.byte_before() == Some(b')') => Hint::Linear,
         _ => Hint::BlankFraction,
     }
 }
 
-// A hint for a sign as books print it, or for a quote.
-fn printed_sign(spot: &Spot) -> Option<Hint>
-    ensures { IfSome result (λ h. IsHintFor h kind.BadByte) }
+// A hint for a plus or a `*`, which is for this in a formula.
+fn plus_or_times(spot: &Spot, in_formula: Hint) -> Hint
+    requires { IsHintFor in_formula kind.BadByte }
+    ensures { IsHintFor result kind.BadByte }
 {
-    match spot.character()? {
-        '¬' | '~' => Some(Hint::Not),
-        '∧' | '^' => Some(Hint::And),
-        '∨' => Some(Hint::Or),
-        '→' | '⇒' => Some(Hint::Implies),
-        '↔' | '⇔' => Some(Hint::Iff),
-        '≤' => Some(Hint::AtMost),
-        '≥' => Some(Hint::AtLeast),
-        '"' | '\'' | '`' | '“' | '”' | '„' | '‘' | '’' => Some(Hint::Quote),
-        _ => None,
+    if spot.begins_any(&["+-", "+/-"]) {
+        Hint::Margin
+    } else if Item::before(spot).is_in_formula() {
+        in_formula
+    } else if is_digit(spot.byte_before()) {
+        Hint::Arithmetic
+    } else {
+        Hint::Linear
+    }
+}
+
+// A hint for a `%`.
+fn percent(spot: &Spot) -> Hint
+    ensures { IsHintFor result kind.BadByte }
+{
+    if Item::before(spot).is_empty() {
+        Hint::Comment
+    } else {
+        Hint::Percent
+    }
+}
+
+// A hint for a colon.
+fn colon(spot: &Spot) -> Hint
+    ensures { IsHintFor result kind.BadByte }
+{
+    if Item::before(spot).is_in_formula() {
+        Hint::GivenMeant
+    } else {
+        Hint::Equals
+    }
+}
+
+// A hint for a `_`.
+fn underscore(spot: &Spot) -> Hint
+    ensures { IsHintFor result kind.BadByte }
+{
+    if is_digit(spot.last()) {
+        Hint::Grouped
+    } else {
+        Hint::DigitFirst
+    }
+}
+
+// A hint for a sign of comparison.
+fn comparison(spot: &Spot) -> Hint
+    ensures { IsHintFor result kind.BadByte }
+{
+    if spot.begins("<-") {
+        Hint::Backwards
+    } else if spot.begins("<") {
+        if spot.follows("=") {
+            Hint::AtMostSign
+        } else {
+            Hint::AtMost
+        }
+    } else if spot.follows("=") {
+        Hint::AtLeastSign
+    } else {
+        Hint::AtLeast
     }
 }
 
@@ -72,15 +155,61 @@ fn byte_by_itself(spot: &Spot, byte: u8) -> Option<Hint>
     ensures { IfSome result (λ h. IsHintFor h kind.BadByte) }
 {
     match byte {
-        b'%' => Some(Hint::Percent),
+        0 => Some(Hint::Wide),
+        b'%' => Some(percent(spot)),
         b'.' => Some(point(spot)),
-        b'<' if spot.begins("<-") => Some(Hint::Backwards),
-        b'<' => Some(Hint::AtMost),
-        b'>' => Some(Hint::AtLeast),
-        b'-' => Some(minus(spot)),
+        b'<' | b'>' => Some(comparison(spot)),
+        b'-' => Some(minus(spot, spot.second())),
         b'/' => Some(slash(spot)),
+        b'\\' => Some(Hint::Or),
+        b'+' => Some(plus_or_times(spot, Hint::Or)),
+        b'*' => Some(plus_or_times(spot, Hint::And)),
+        b':' => Some(colon(spot)),
+        b'?' => Some(Hint::Ask),
+        b'_' => Some(underscore(spot)),
+        b'~' => Some(Hint::Not),
+        b'^' => Some(Hint::And),
+        b'"' | b'\'' | b'`' => Some(Hint::Quote),
         0x80.. => Some(Hint::Letters),
         _ => None,
+    }
+}
+
+// A hint for a mark at the front that tells how the text is encoded.
+fn mark_hint(spot: &Spot) -> Option<Hint>
+    ensures { IfSome result (λ h. IsHintFor h kind.BadByte) }
+{
+    if !spot.before.is_empty() {
+        None
+    } else if spot.begins("\u{feff}") {
+        Some(Hint::ByteOrderMark)
+    } else if matches!(spot.behind, [0xff, 0xfe, ..] | [0xfe, 0xff, ..]) {
+        Some(Hint::Wide)
+    } else {
+        None
+    }
+}
+
+// A hint for a character beyond ASCII.
+fn character_hint(spot: &Spot, c: char) -> Option<Hint>
+    ensures { IfSome result (λ h. IsHintFor h kind.BadByte) }
+{
+    if matches!(c, '−' | '–' | '—' | '‐' | '‑' | '－') {
+        return Some(minus(spot, spot.behind.get(c.len_utf8()).copied()));
+    }
+    letter_hint(c)
+}
+
+// A hint for what stands here by itself.
+fn hint_here(spot: &Spot) -> Option<Hint>
+    ensures { IfSome result (λ h. IsHintFor h kind.BadByte) }
+{
+    match spot.character() {
+        Some(c) if !c.is_ascii() => match character_hint(spot, c) {
+            Some(hint) => Some(hint),
+            None => Some(Hint::Letters),
+        },
+        _ => byte_by_itself(spot, spot.first()?),
     }
 }
 
@@ -88,11 +217,8 @@ fn byte_by_itself(spot: &Spot, byte: u8) -> Option<Hint>
 pub(crate) fn byte_hint(spot: &Spot) -> Option<Hint>
     ensures { IfSome result (λ h. IsHintFor h kind.BadByte) }
 {
-    if spot.before.is_empty() && spot.begins("\u{feff}") {
-        return Some(Hint::ByteOrderMark);
-    }
-    match printed_sign(spot) {
+    match mark_hint(spot) {
         Some(hint) => Some(hint),
-        None => byte_by_itself(spot, spot.first()?),
+        None => hint_here(spot),
     }
 }

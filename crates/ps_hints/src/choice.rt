@@ -29,12 +29,26 @@ fn expected_hint(what: What, spot: &Spot) -> Hint
     }
 }
 
+// Whether a carriage return without a line feed behind it stands in some bytes.
+fn has_lone_return(bytes: &[u8]) -> bool {
+    let mut last = b' ';
+    for byte in bytes {
+        if last == b'\r' && *byte != b'\n' {
+            return true;
+        }
+        last = *byte;
+    }
+    false
+}
+
 // A hint where the text ends too early.
 fn end_hint(spot: &Spot) -> Hint
     ensures { IsHintFor result kinds.EndMissing }
 {
     if end_of_tokens(spot.before) == 0 {
         Hint::Empty
+    } else if has_lone_return(spot.before) {
+        Hint::LoneReturn
     } else {
         Hint::End
     }

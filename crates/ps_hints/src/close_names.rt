@@ -2,12 +2,15 @@
 ghost use Rattle.std.specs.Prelude.{◌≡◌, IfOk, IfSome, IsTrue, Some, slice_get};
 ghost use Rattle.ps_hints.specs.Names.{edits, AreClose, IsMeantBy};
 
+use crate::mistypes::{differ_in_part, differing_letters};
+use crate::uses::Uses;
 use ps_io::NoMemory;
 use ps_problem::Problem;
 use std::alloc::Global;
 use strsim::osa_distance;
 
-// The least bytes of a name of which one letter may be wrong, and of one of which two may.
+// The least letters of a name, or of its part between `_`, of which one may be wrong, and of which
+// two may.
 const LEAST_FOR_ONE: usize = 3;
 
 const LEAST_FOR_TWO: usize = 8;
@@ -39,16 +42,21 @@ fn edits_between(alloc: Global, name: &str, other: &str) -> Result<usize, NoMemo
 }
 
 // Whether one name may be meant by the other: one edit or swap leads from one to the other, or two
-// where they are long, and they differ in more than digits.
+// where they are long, and they differ in more than digits and in less than a part between `_`.
 fn are_close(alloc: Global, name: &str, other: &str) -> Result<bool, NoMemory>
     ensures { IfOk result (λ b. IsTrue b → AreClose name.now other.now) }
 {
+    let letters = differing_letters(name.as_bytes(), other.as_bytes());
     let is_near = match edits_between(alloc, name, other)? {
-        1 => name.len() >= LEAST_FOR_ONE,
-        2 => name.len() >= LEAST_FOR_TWO,
+        1 => letters >= LEAST_FOR_ONE,
+        2 => letters >= LEAST_FOR_TWO,
         _ => false,
     };
-    Ok(is_near && !are_numbered(alloc, name, other)?)
+    Ok(
+        is_near
+            && !differ_in_part(name.as_bytes(), other.as_bytes())
+            && !are_numbered(alloc, name, other)?,
+    )
 }
 
 // The name of an atom, as text.
@@ -58,13 +66,20 @@ fn name_of(problem: &Problem, atom: u16) -> Option<&str>
     str::from_utf8(problem.name(atom)?).ok()
 }
 
-/// The first name that may be meant by an atom's.
+// Whether a name is used more than once, or comes before a name that is used once.
+fn is_less_rare(bytes: &[u8], name: &str, comes_before: bool) -> bool {
+    comes_before || Uses::of(bytes, name.as_bytes()).count > 1
+}
+
+/// The first name that may be meant by an atom's, which is used once in the text: one that is used
+/// more often, or comes before it.
 #[tactic(auto, using(crate::proofs::Meant::meant))]
-pub(crate) fn close_name(
+pub(crate) fn close_name<'p>(
     alloc: Global,
-    problem: &Problem,
+    bytes: &[u8],
+    problem: &'p Problem,
     atom: u16,
-) -> Result<Option<&[u8]>, NoMemory>
+) -> Result<Option<&'p [u8]>, NoMemory>
     ensures { IfOk result (λ r. IfSome r (λ meant. IsMeantBy problem.now.names atom meant.now)) }
 {
     let Some(name) = name_of(problem, atom) else {
@@ -72,7 +87,10 @@ pub(crate) fn close_name(
     };
     for other in 0..problem.atoms() {
         if let Some(meant) = name_of(problem, other) {
-            if other != atom && are_close(alloc, name, meant)? {
+            if other != atom
+                && are_close(alloc, name, meant)?
+                && is_less_rare(bytes, meant, other < atom)
+            {
                 return Ok(Some(meant.as_bytes()));
             }
         }

@@ -51,10 +51,10 @@ pub(crate) fn excess(kind: ReadKind) -> &'static str
     requires { IsCount kind }
 {
     match kind {
-        ReadKind::TooManyAtoms => "with this there are more than 128 atoms",
-        ReadKind::TooManyNodes => "with this there are more than 1024 different formulas",
-        ReadKind::TooManyBounds => "with this there are more than 100 bounds",
-        ReadKind::TooManyQueries => "with this there are more than 16 queries",
+        ReadKind::TooManyAtoms => "there are more than 128 atoms",
+        ReadKind::TooManyNodes => "there are more than 1024 different formulas",
+        ReadKind::TooManyBounds => "there are more than 100 bounds",
+        ReadKind::TooManyQueries => "there are more than 16 queries",
         _ => unreachable!(),
     }
 }

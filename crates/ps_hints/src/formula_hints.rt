@@ -4,31 +4,68 @@ ghost use Rattle.ps_hints.specs.Hints.{IsHintFor};
 ghost use Rattle.ps_text.specs.declared.kind.ReadKind.TheVariants as kind;
 ghost use Rattle.ps_text.specs.declared.kind.What.TheVariants as what;
 
+use crate::found::number_at_front;
 use crate::hint::Hint;
+use crate::mistypes::is_mistyped;
 use crate::spot::Spot;
-use crate::words::{is_any, is_reserved, is_reserved_in_other_letters};
+use crate::words::{
+    NOT, is_any, is_reserved, is_reserved_in_other_letters, is_word_byte, word_at_front,
+};
+
+// A hint for a word for an operator.
+fn operator_in_words(word: &[u8]) -> Option<Hint>
+    ensures { IfSome result (λ h. IsHintFor h (kind.Expected what.Operator)) }
+{
+    if is_any(word, &["and", "AND", "And"]) {
+        Some(Hint::And)
+    } else if is_any(word, &["or", "OR", "Or"]) {
+        Some(Hint::Or)
+    } else if is_any(word, &["xor", "XOR", "Xor"]) {
+        Some(Hint::Xor)
+    } else if is_any(word, &["implies", "IMPLIES", "then"]) {
+        Some(Hint::Implies)
+    } else if is_any(word, &["iff", "IFF"]) {
+        Some(Hint::Iff)
+    } else {
+        None
+    }
+}
 
 // A hint for a word where an operator is expected.
 fn operator_word(spot: &Spot) -> Option<Hint>
     ensures { IfSome result (λ h. IsHintFor h (kind.Expected what.Operator)) }
 {
     let word = spot.word();
-    if is_any(spot.word_before(), &["not", "NOT", "Not"]) {
+    if is_any(spot.word_before(), NOT) {
         Some(Hint::Not)
-    } else if is_any(word, &["and", "AND", "And"]) {
-        Some(Hint::And)
-    } else if is_any(word, &["or", "OR", "Or"]) {
-        Some(Hint::Or)
-    } else if is_any(word, &["implies", "IMPLIES"]) {
+    } else if is_any(spot.word_before(), &["if", "If", "IF"]) {
         Some(Hint::Implies)
-    } else if is_any(word, &["iff", "IFF"]) {
-        Some(Hint::Iff)
     } else if is_any(word, &["given"]) {
         Some(Hint::OneGiven)
     } else if is_reserved_in_other_letters(word) {
         Some(Hint::SmallLetters)
+    } else if is_mistyped(word, "given") || is_any(word, &["if", "when", "assuming"]) {
+        Some(Hint::GivenMeant)
     } else {
-        None
+        operator_in_words(word)
+    }
+}
+
+// What follows a `=` where an operator is expected.
+fn equation_hint(spot: &Spot) -> Hint
+    ensures { IsHintFor result (kind.Expected what.Operator) }
+{
+    let rest = spot.rest_behind(1);
+    let number = number_at_front(rest);
+    if !number.is_empty() {
+        match rest.get(number.len()..).unwrap_or(&[]).trim_ascii_start() {
+            [b')', ..] => Hint::Equated,
+            _ => Hint::Unclosed,
+        }
+    } else if is_reserved(word_at_front(rest)) || !matches!(rest, [b, ..] if is_word_byte(*b)) {
+        Hint::Unclosed
+    } else {
+        Hint::Iff
     }
 }
 
@@ -36,13 +73,15 @@ fn operator_word(spot: &Spot) -> Option<Hint>
 fn operator_sign(spot: &Spot) -> Hint
     ensures { IsHintFor result (kind.Expected what.Operator) }
 {
-    if spot.begins("=>") {
+    if spot.begins_any(&["=>", "==>"]) {
         Hint::Implies
     } else if spot.begins_any(&["==", "<=>"]) {
         Hint::Iff
     } else if spot.begins(",") {
         Hint::And
-    } else if spot.begins_any(&["=", "<=", ">=", "in ", ";"]) {
+    } else if spot.begins("=") {
+        equation_hint(spot)
+    } else if spot.begins_any(&["<=", ">=", "in ", ";"]) {
         Hint::Unclosed
     } else {
         Hint::Joined

@@ -1,5 +1,6 @@
 //! What is found at a place.
-ghost use Rattle.std.specs.Prelude.{◌≡◌, ◌≤◌, ◌<◌, IfSome, length};
+ghost use Rattle.std.specs.Prelude.{◌≡◌, ◌≤◌, ◌<◌, IfSome, Some, true, length, slice_get};
+ghost use Rattle.std.specs.Char.{encode_utf8};
 ghost use Rattle.ps_hints.specs.Found.{IsFound, IsFront};
 
 use crate::glyph::shown_character;
@@ -20,8 +21,10 @@ pub(crate) enum Found<'t> {
     LineEnd,
     /// A byte that can't be shown.
     Byte(u8),
-    /// A word, a number, a sign or another character.
+    /// A word, a number, a sign or another character of ASCII.
     Token(&'t [u8]),
+    /// A character beyond ASCII.
+    Character(char),
 }
 
 // So many bytes at the front, where there are as many.
@@ -78,7 +81,32 @@ fn sign_at_front(bytes: &[u8]) -> Option<&[u8]>
     }
 }
 
-// The character at the front, as a token where it can be shown.
+// Whether bytes begin with a character.
+#[tactic(auto, using(crate::proofs::Fronts::begins))]
+fn is_at_front(bytes: &[u8], c: char) -> bool
+    ensures { result ≡ true → IsFront (encode_utf8 c) bytes.now }
+{
+    let mut room = [0; 4];
+    bytes.starts_with(c.encode_utf8(&mut room).as_bytes())
+}
+
+// The character of ASCII at the front, as a token where it can be shown.
+#[tactic(auto, using(crate::proofs::Fronts::taken))]
+fn ascii_at_front(bytes: &[u8], first: u8) -> Found<'_>
+    requires { slice_get bytes.now 0 ≡ Some first }
+    ensures { IsFound bytes.now result }
+{
+    if first.is_ascii() && !first.is_ascii_control() {
+        match front(bytes, 1) {
+            Some(character) => Found::Token(character),
+            None => Found::Byte(first),
+        }
+    } else {
+        Found::Byte(first)
+    }
+}
+
+// The character at the front.
 fn character_at_front(bytes: &[u8]) -> Found<'_>
     ensures { IsFound bytes.now result }
 {
@@ -89,12 +117,21 @@ fn character_at_front(bytes: &[u8]) -> Found<'_>
         return Found::Byte(*first);
     };
     match chunk.valid().chars().next() {
-        Some(c) if shown_character(c) == c => match front(bytes, c.len_utf8()) {
-            Some(character) => Found::Token(character),
-            None => Found::Byte(*first),
-        },
-        _ => Found::Byte(*first),
+        Some(c) if !c.is_ascii() && is_at_front(bytes, c) => Found::Character(c),
+        _ => ascii_at_front(bytes, *first),
     }
+}
+
+// Adds a character, where it can be seen, and its number.
+fn push_character(message: &mut Message, c: char) -> Result<(), NoMemory> {
+    if shown_character(c) != c || c.is_whitespace() {
+        return message.push_code(c);
+    }
+    message.push('`')?;
+    message.push(c)?;
+    message.push_text("` (")?;
+    message.push_code(c)?;
+    message.push(')')
 }
 
 impl<'t> Found<'t> {
@@ -136,6 +173,7 @@ impl<'t> Found<'t> {
                 }
                 message.push_text("`")
             }
+            Found::Character(c) => push_character(message, *c),
         }
     }
 }

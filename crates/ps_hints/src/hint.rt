@@ -30,12 +30,34 @@ pub enum Hint {
     Negative,
     /// A value above 1.
     AboveOne,
+    /// `20 in 100`.
+    Frequency,
+    /// `1 - 0.3`.
+    Arithmetic,
+    /// `1_000`.
+    Grouped,
+    /// `0.3 +- 0.1`.
+    Margin,
     /// Too many digits, or too great a denominator.
     Round,
     /// No number behind a relation.
     Number,
     /// No interval behind `in`.
     Interval,
+    /// `0.2 <= P(a) <= 0.3`.
+    Between,
+    /// `:=`.
+    Equals,
+    /// `≤`.
+    AtMostSign,
+    /// `≥`.
+    AtLeastSign,
+    /// `2 * P(a)`, or a sum of probabilities.
+    Linear,
+    /// `query P(a) = 0.3`.
+    QueryValue,
+    /// `P(a) = ?`.
+    Ask,
     /// `<`.
     AtMost,
     /// `>`.
@@ -58,14 +80,26 @@ pub enum Hint {
     OneOr,
     /// `=>`.
     Implies,
+    /// `xor`.
+    Xor,
+    /// `a = 1` in a formula.
+    Equated,
     /// `==` or `<=>`.
     Iff,
     /// `<-`.
     Backwards,
     /// A second `given`.
     OneGiven,
+    /// `givn`.
+    GivenMeant,
+    /// `qeury`.
+    QueryMeant,
+    /// `edn`.
+    EndMeant,
     /// A `(` without its `)`.
     Unclosed,
+    /// A `)` without its `(`.
+    Unopened,
     /// Two operands side by side.
     Joined,
     /// A formula is missing.
@@ -80,6 +114,18 @@ pub enum Hint {
     Hyphen,
     /// A letter beyond ASCII.
     Letters,
+    /// A no-break space, or another blank that isn't plain.
+    Blank,
+    /// A character of no width.
+    Unseen,
+    /// A sign or letter of full width.
+    FullWidth,
+    /// The Greek question mark, which looks as `;`.
+    GreekQuestion,
+    /// A text in UTF-16.
+    Wide,
+    /// Lines that end with a carriage return alone.
+    LoneReturn,
     /// A quote.
     Quote,
     /// A name that is too long.
@@ -128,9 +174,22 @@ impl Hint {
             Hint::BlankFraction => "write a fraction without blanks: 1/2",
             Hint::Negative => "no value is below 0; write -> for \"implies\" and ! for \"not\"",
             Hint::AboveOne => "a probability is at most 1: write 0.3 or 30/100 for 30 per cent",
+            Hint::Frequency => "write 20/100 for 20 in 100",
+            Hint::Arithmetic => "write the value itself: 0.7 for 1 - 0.3",
+            Hint::Grouped => "write the digits of a number side by side: 1/1000",
+            Hint::Margin => "write an interval: in [0.2, 0.4] for 0.3 +- 0.1",
             Hint::Round => "round it, or write an interval: in [0.333333, 0.333334]",
             Hint::Number => "write a number here: 0.5 or 1/2",
             Hint::Interval => "write an interval as in [1/4, 1/2]",
+            Hint::Between =>
+                "write P(a) in [0.2, 0.3] for 0.2 <= P(a) <= 0.3, and P(a) >= 0.2 for 0.2 <= P(a)",
+            Hint::Equals => "write = and the value: P(a) = 0.3",
+            Hint::AtMostSign => "write <= for \"at most\"",
+            Hint::AtLeastSign => "write >= for \"at least\"",
+            Hint::Linear =>
+                "a sentence bounds one P(..), no sum: write P(a) <= 1/2 for 2 * P(a) <= 1",
+            Hint::QueryValue => "a query states no value: write query P(a); or leave out query",
+            Hint::Ask => "to ask, write query P(a);",
             Hint::AtMost => "write <= for \"at most\": no bound is strict",
             Hint::AtLeast => "write >= for \"at least\": no bound is strict",
             Hint::OneEquals => "one = is enough",
@@ -143,11 +202,17 @@ impl Hint {
             Hint::Or => "write | for \"or\"",
             Hint::OneOr => "one | is enough",
             Hint::Implies => "write -> for \"implies\"",
+            Hint::Xor => "write !(a <-> b) for a xor b",
+            Hint::Equated => "write a for a = 1, and !a for a = 0",
             Hint::Iff => "write <-> for \"if and only if\"",
             Hint::Backwards => "write b -> a for a <- b",
             Hint::OneGiven =>
                 "one given may stand, outside of inner parentheses: join conditions by &",
+            Hint::GivenMeant => "is given meant? a condition is written so: P(a given b)",
+            Hint::QueryMeant => "is query meant?",
+            Hint::EndMeant => "is end meant?",
             Hint::Unclosed => "a ( before this isn't closed",
+            Hint::Unopened => "no ( before this ) is open",
             Hint::Joined => "write &, |, -> or <-> between two formulas, and a name without blanks",
             Hint::Operand => "write a name, true, false, ! or ( here",
             Hint::Reserved => "this word is reserved: take another name",
@@ -155,9 +220,16 @@ impl Hint {
             Hint::Truth => "write true for 1 and false for 0",
             Hint::Hyphen => "a name has letters, digits and _, but no -",
             Hint::Letters => "a name has the letters a to z and A to Z, digits and _",
+            Hint::Blank => "this is no plain blank: write a space",
+            Hint::Unseen => "this character can't be seen: delete it",
+            Hint::FullWidth => "this is a letter or sign of full width: write a plain one",
+            Hint::GreekQuestion => "this is a Greek question mark: write ;",
+            Hint::Wide => "zero bytes or a mark of UTF-16 stand here: save the file as UTF-8",
+            Hint::LoneReturn =>
+                "lines end with a carriage return alone: save the file with line feeds",
             Hint::Quote => "write names without quotes",
             Hint::Short => "write a shorter name",
-            Hint::Comment => "a comment begins with #",
+            Hint::Comment => "a comment begins with # and ends with its line",
             Hint::Probability => "write a probability as P(..)",
             Hint::SmallLetters =>
                 "write psat, given, in, query, end, true and false in small letters",

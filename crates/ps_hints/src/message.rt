@@ -27,6 +27,14 @@ impl Model for Message {
     ghost invariant = { λ m. IsHarmless (string_bytes m.text) };
 }
 
+// The last digit of a number, to the base 16.
+fn hex_digit(number: u32) -> char {
+    match char::from_digit(number % 16, 16) {
+        Some(digit) => digit.to_ascii_uppercase(),
+        None => '0',
+    }
+}
+
 impl Message {
     /// An empty message.
     #[tactic(auto, using(crate::proofs::Harmless::nothing))]
@@ -82,6 +90,26 @@ impl Message {
     pub(crate) fn push_number(&mut self, number: u32) -> Result<(), NoMemory> {
         let mut digits = itoa::Buffer::new();
         self.push_text(digits.format(number))
+    }
+
+    /// Adds the number of a character, as `U+2212`.
+    pub(crate) fn push_code(&mut self, c: char) -> Result<(), NoMemory> {
+        let code = u32::from(c);
+        let fronts = [
+            code >> 20,
+            code >> 16,
+            code >> 12,
+            code >> 8,
+            code >> 4,
+            code,
+        ];
+        self.push_text("U+")?;
+        for (place, front) in fronts.iter().enumerate() {
+            if place >= 2 || *front > 0 {
+                self.push(hex_digit(*front))?;
+            }
+        }
+        Ok(())
     }
 
     /// Ends the line.

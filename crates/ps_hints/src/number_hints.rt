@@ -8,6 +8,7 @@ ghost use Rattle.ps_text.specs.declared.kind.What.TheVariants as what;
 use crate::found::number_at_front;
 use crate::hint::Hint;
 use crate::spot::Spot;
+use crate::words::{is_any, word_at_front};
 
 // Whether a digit stands right before.
 fn is_behind_digit(spot: &Spot) -> bool {
@@ -19,6 +20,14 @@ fn is_before_digit(spot: &Spot) -> bool {
     matches!(spot.second(), Some(byte) if byte.is_ascii_digit())
 }
 
+// Whether the number behind which the spot is has a `/`.
+fn is_behind_fraction(spot: &Spot) -> bool {
+    match spot.before.iter().rposition(|byte| !byte.is_ascii_digit()) {
+        Some(last) => spot.before[last] == b'/',
+        None => false,
+    }
+}
+
 /// A hint for what stands behind the front of a number.
 pub(crate) fn behind_number(spot: &Spot) -> Option<Hint>
     ensures { IfSome result (λ h. (k : ReadKind) → IsAtNumber k → IsHintFor h k) }
@@ -26,7 +35,11 @@ pub(crate) fn behind_number(spot: &Spot) -> Option<Hint>
     if !is_behind_digit(spot) {
         None
     } else if spot.begins(",") && is_before_digit(spot) {
-        Some(Hint::DecimalComma)
+        if is_behind_fraction(spot) {
+            Some(Hint::Grouped)
+        } else {
+            Some(Hint::DecimalComma)
+        }
     } else if spot.begins_any(&["e", "E"]) {
         Some(Hint::Exponent)
     } else {
@@ -40,6 +53,8 @@ pub(crate) fn relation_hint(spot: &Spot) -> Hint
 {
     if spot.begins_any(&["&", "|", "->", "<->", "given"]) {
         Hint::Outside
+    } else if spot.begins(")") {
+        Hint::Unopened
     } else {
         Hint::Relation
     }
@@ -66,10 +81,14 @@ pub(crate) fn interval_hint(spot: &Spot) -> Hint
     }
 }
 
-// Whether a number stands here with a percent sign behind.
-fn is_percentage(spot: &Spot) -> bool {
-    let number = number_at_front(spot.behind);
-    matches!(spot.behind.get(number.len()), Some(b'%'))
+// What stands behind the number that stands here, and the blanks behind it.
+fn rest_behind_number<'t>(spot: &Spot<'t>) -> &'t [u8] {
+    spot.rest_behind(number_at_front(spot.behind).len())
+}
+
+// Whether a percent sign stands behind a number, or its word.
+fn is_percent(rest: &[u8]) -> bool {
+    rest.starts_with(b"%") || is_any(word_at_front(rest), &["percent", "per", "pct"])
 }
 
 // Whether the number here is the part behind a decimal comma.
@@ -84,8 +103,11 @@ fn is_behind_comma(spot: &Spot) -> bool {
 pub(crate) fn value_hint(spot: &Spot) -> Hint
     ensures { IsHintFor result kind.NumberOutOfRange }
 {
-    if is_percentage(spot) {
+    let rest = rest_behind_number(spot);
+    if is_percent(rest) {
         Hint::Percent
+    } else if is_any(word_at_front(rest), &["in", "of", "out"]) {
+        Hint::Frequency
     } else if is_behind_comma(spot) {
         Hint::DecimalComma
     } else {

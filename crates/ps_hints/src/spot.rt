@@ -79,6 +79,21 @@ impl<'t> Spot<'t> {
         self.before.last().copied()
     }
 
+    /// The byte before, with nothing but blanks between.
+    pub(crate) fn byte_before(&self) -> Option<u8> {
+        self.before.trim_ascii_end().last().copied()
+    }
+
+    /// What stands behind so many bytes, without the blanks at its front.
+    pub(crate) fn rest_behind(&self, count: usize) -> &'t [u8] {
+        self.behind.get(count..).unwrap_or(&[]).trim_ascii_start()
+    }
+
+    /// Whether it is the first on its line but for blanks.
+    pub(crate) fn begins_line(&self) -> bool {
+        self.line_before().trim_ascii().is_empty()
+    }
+
     /// The bytes of the line before the place.
     pub(crate) fn line_before(&self) -> &'t [u8] {
         match self.before.iter().rposition(|byte| *byte == b'\n') {

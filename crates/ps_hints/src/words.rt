@@ -1,6 +1,9 @@
 //! Words.
 ghost use Rattle.ps_hints.specs.Found.{IsFront};
 
+/// The word for "not".
+pub(crate) const NOT: &[&'static str] = &["not", "NOT", "Not"];
+
 /// Whether a byte may stand in a word.
 pub(crate) fn is_word_byte(byte: u8) -> bool {
     byte.is_ascii_alphanumeric() || byte == b'_'

@@ -1,10 +1,12 @@
 //! Messages about the errors that people really make, through the reader.
 mod excerpts;
 mod formula_rows;
+mod habits;
 mod item_rows;
 mod letter_rows;
 mod lines;
 mod number_rows;
+mod table;
 mod texts;
 mod warnings;
 

@@ -4,7 +4,7 @@ use ps_ask::{Status, Style};
 pub const PROBLEM: &[u8] = b"psat 1;
 P(rain) = 0.3;
 P(wet given rain) >= 0.9;
-P(dry | wet) = 1;
+P(dry | wet) = 1; P(rain) = 3/10;
 query P(wet);
 query P(rain & wet);
 query P(dry given rain & !rain);
@@ -44,11 +44,11 @@ const OBJECT: &str = concat!(
     "\"lower\":{\"exact\":\"3/10\",\"decimal\":\"0.300\",\"why\":null},",
     "\"upper\":{\"exact\":\"3/10\",\"decimal\":\"0.300\",\"why\":null}}],",
     "\"clash\":null,",
-    "\"counts\":{\"atoms\":3,\"sentences\":3,\"bounds\":3,\"queries\":4,\"open\":0},",
+    "\"counts\":{\"atoms\":3,\"sentences\":4,\"bounds\":4,\"queries\":4,\"open\":0},",
     "\"status\":0}\n",
 );
 
-pub const WARNING: &str = "f:4: warning: P(dry | wet): | is \"or\"; for a condition write given\n";
+pub const WARNING: &str = "f:4: warning: P(rain): the same sentence stands on line 2\n";
 
 pub const CLASH: &[u8] = b"psat 1; P(a) = 1; # P(c) = 1;
 P(b) <= 1/2; query P(a);

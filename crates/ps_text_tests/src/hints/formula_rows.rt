@@ -21,9 +21,9 @@ pub(super) const ROWS: [Row; 21] = [
     },
     Row {
         text: "psat 1;\nP(not a) = 1;\nend;\n",
-        message: "f:2:7: found `a`, expected `&`, `|`, `->`, `<->`, `given` or `)`
+        message: "f:2:3: found `not`, expected `!`
   P(not a) = 1;
-        ^
+    ^
   hint: write ! for \"not\"
 ",
     },

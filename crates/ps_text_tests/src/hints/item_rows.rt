@@ -72,7 +72,7 @@ pub(super) const ROWS: [Row; 10] = [
         message: "f:2:1: found `/`, expected a word, a number or a sign
   // so
   ^
-  hint: a comment begins with #
+  hint: a comment begins with # and ends with its line
 ",
     },
     Row {

@@ -5,7 +5,7 @@ use super::Row;
 pub(super) const ROWS: [Row; 14] = [
     Row {
         text: "psat 1;\nP(é) = 1;\nend;\n",
-        message: "f:2:3: found `é`, expected a word, a number or a sign
+        message: "f:2:3: found `é` (U+00E9), expected a word, a number or a sign
   P(é) = 1;
     ^
   hint: a name has the letters a to z and A to Z, digits and _
@@ -13,7 +13,7 @@ pub(super) const ROWS: [Row; 14] = [
     },
     Row {
         text: "psat 1;\nP(café) = 1;\nend;\n",
-        message: "f:2:6: found `é`, expected a word, a number or a sign
+        message: "f:2:6: found `é` (U+00E9), expected a word, a number or a sign
   P(café) = 1;
        ^
   hint: a name has the letters a to z and A to Z, digits and _
@@ -37,7 +37,7 @@ pub(super) const ROWS: [Row; 14] = [
     },
     Row {
         text: "psat 1;\nP(“a”) = 1;\nend;\n",
-        message: "f:2:3: found `“`, expected a word, a number or a sign
+        message: "f:2:3: found `“` (U+201C), expected a word, a number or a sign
   P(“a”) = 1;
     ^
   hint: write names without quotes
@@ -45,7 +45,7 @@ pub(super) const ROWS: [Row; 14] = [
     },
     Row {
         text: "psat 1;\nP(¬a) = 1;\nend;\n",
-        message: "f:2:3: found `¬`, expected a word, a number or a sign
+        message: "f:2:3: found `¬` (U+00AC), expected a word, a number or a sign
   P(¬a) = 1;
     ^
   hint: write ! for \"not\"
@@ -53,7 +53,7 @@ pub(super) const ROWS: [Row; 14] = [
     },
     Row {
         text: "psat 1;\nP(a ∧ b) = 1;\nend;\n",
-        message: "f:2:5: found `∧`, expected a word, a number or a sign
+        message: "f:2:5: found `∧` (U+2227), expected a word, a number or a sign
   P(a ∧ b) = 1;
       ^
   hint: write & for \"and\"
@@ -61,7 +61,7 @@ pub(super) const ROWS: [Row; 14] = [
     },
     Row {
         text: "psat 1;\nP(a ∨ b) = 1;\nend;\n",
-        message: "f:2:5: found `∨`, expected a word, a number or a sign
+        message: "f:2:5: found `∨` (U+2228), expected a word, a number or a sign
   P(a ∨ b) = 1;
       ^
   hint: write | for \"or\"
@@ -69,7 +69,7 @@ pub(super) const ROWS: [Row; 14] = [
     },
     Row {
         text: "psat 1;\nP(a → b) = 1;\nend;\n",
-        message: "f:2:5: found `→`, expected a word, a number or a sign
+        message: "f:2:5: found `→` (U+2192), expected a word, a number or a sign
   P(a → b) = 1;
       ^
   hint: write -> for \"implies\"
@@ -77,7 +77,7 @@ pub(super) const ROWS: [Row; 14] = [
     },
     Row {
         text: "psat 1;\nP(a ⇔ b) = 1;\nend;\n",
-        message: "f:2:5: found `⇔`, expected a word, a number or a sign
+        message: "f:2:5: found `⇔` (U+21D4), expected a word, a number or a sign
   P(a ⇔ b) = 1;
       ^
   hint: write <-> for \"if and only if\"
@@ -85,18 +85,18 @@ pub(super) const ROWS: [Row; 14] = [
     },
     Row {
         text: "psat 1;\nP(a) ≤ 1;\nend;\n",
-        message: "f:2:6: found `≤`, expected a word, a number or a sign
+        message: "f:2:6: found `≤` (U+2264), expected a word, a number or a sign
   P(a) ≤ 1;
        ^
-  hint: write <= for \"at most\": no bound is strict
+  hint: write <= for \"at most\"
 ",
     },
     Row {
         text: "psat 1;\nP(a) ≥ 1;\nend;\n",
-        message: "f:2:6: found `≥`, expected a word, a number or a sign
+        message: "f:2:6: found `≥` (U+2265), expected a word, a number or a sign
   P(a) ≥ 1;
        ^
-  hint: write >= for \"at least\": no bound is strict
+  hint: write >= for \"at least\"
 ",
     },
     Row {
@@ -108,10 +108,10 @@ pub(super) const ROWS: [Row; 14] = [
     },
     Row {
         text: "psat 1;\nP(\u{202e}a) = 1;\nend;\n",
-        message: "f:2:3: found the byte 226, expected a word, a number or a sign
+        message: "f:2:3: found U+202E, expected a word, a number or a sign
   P(?a) = 1;
     ^
-  hint: a name has the letters a to z and A to Z, digits and _
+  hint: this character can't be seen: delete it
 ",
     },
 ];

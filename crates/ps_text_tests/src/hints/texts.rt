@@ -16,7 +16,7 @@ fn an_empty_text(rt: HostRuntime) -> Result<(), Fail> {
 
 #[test]
 fn a_byte_order_mark(rt: HostRuntime) -> Result<(), Fail> {
-    let told = "f:1:1: found the byte 239, expected a word, a number or a sign
+    let told = "f:1:1: found U+FEFF, expected a word, a number or a sign
   ?psat 1; end;
   ^
   hint: a byte-order mark stands at the front: save the file without it
@@ -108,7 +108,7 @@ fn with_many(alloc: Global, item: &str, count: usize) -> Result<String, NoMemory
 fn too_many_atoms(rt: HostRuntime) -> Result<(), Fail> {
     // Each sentence has two names of its own.
     let text = with_many(rt.alloc(), "P(x# & y#) = 1;\n", 65)?;
-    let told = "f:66:1: with this there are more than 128 atoms
+    let told = "f:66:1: with the atom `x64` there are more than 128 atoms
   P(x64 & y64) = 1;
   ^
   hint: leave out what no query needs
