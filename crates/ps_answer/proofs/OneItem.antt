@@ -180,6 +180,12 @@ wide_two [] f = line.End
 wide_two (a ∷ []) f = line.End
 wide_two (a ∷ b ∷ ws) f = wide_end ws (f a b)
 
+wide_three : List (List ℕ) → (List ℕ → List ℕ → List ℕ → Place) → LineItem
+wide_three [] f = line.End
+wide_three (a ∷ []) f = line.End
+wide_three (a ∷ b ∷ []) f = line.End
+wide_three (a ∷ b ∷ c ∷ ws) f = wide_end ws (f a b c)
+
 wide_in : List ℕ → List (List ℕ) → LineItem
 wide_in w ws = under (
     (codes "ratio", wide_one ws (λ a. place.Ratio (size_of a)))
@@ -192,8 +198,10 @@ wide_in w ws = under (
     ∷ (codes "weight", wide_one ws (λ a. place.Weight (size_of a)))
     ∷ (codes "weighed", wide_one ws (λ a. place.Weighed (size_of a)))
     ∷ (codes "total", wide_one ws (λ a. place.Total (size_of a)))
-    ∷ (codes "new-times", wide_two ws (λ a b. place.NewTimes (size_of a) (size_of b)))
-    ∷ []) (wide_two ws (λ a b. place.NewPlus (size_of a) (size_of b))) w
+    ∷ (codes "price-times", wide_two ws (λ a b. place.PriceTimes (size_of a) (size_of b)))
+    ∷ (codes "price-plus", wide_two ws (λ a b. place.PricePlus (size_of a) (size_of b)))
+    ∷ (codes "column-times", wide_three ws (λ a b c. place.ColumnTimes (size_of a) (size_of b) (size_of c)))
+    ∷ []) (wide_three ws (λ a b c. place.ColumnPlus (size_of a) (size_of b) (size_of c))) w
 
 end_is : (ws : List (List ℕ)) (p : Place) (o : Op) (l r : Ratio) → SpellWords ws (op_word o ∷ Fraction l ∷ Fraction r ∷ []) → wide_end ws p ≡ line.OpenWide p o l r
 unfolding wide_end
@@ -219,6 +227,23 @@ two_are [] f v u p o l r h s = absurd s
 two_are (a ∷ []) f v u p o l r h s = absurd s.1
 two_are (a ∷ b ∷ ws) f v u p o l r h s = ap (λ x. wide_end ws x) (h a b s.0 s.1.0) ∙ end_is ws p o l r s.1.1
 
+three_are : (ws : List (List ℕ)) (f : List ℕ → List ℕ → List ℕ → Place) (v u x : Word) (p : Place) (o : Op) (l r : Ratio)
+    → ((a b c : List ℕ) → SpellsWord a v → SpellsWord b u → SpellsWord c x → f a b c ≡ p)
+    → SpellWords ws (v ∷ u ∷ x ∷ op_word o ∷ Fraction l ∷ Fraction r ∷ []) → wide_three ws f ≡ line.OpenWide p o l r
+unfolding wide_three
+three_are [] f v u x p o l r h s = absurd s
+three_are (a ∷ []) f v u x p o l r h s = absurd s.1
+three_are (a ∷ b ∷ []) f v u x p o l r h s = absurd s.1.1
+three_are (a ∷ b ∷ c ∷ ws) f v u x p o l r h s = ap (λ y. wide_end ws y) (h a b c s.0 s.1.0 s.1.1.0) ∙ end_is ws p o l r s.1.1.1
+
+-- numbers in a place
+two_counts : (f : ℕ → ℕ → Place) (i j : ℕ) (a b : List ℕ) → SpellsWord a (count i) → SpellsWord b (count j) → f (size_of a) (size_of b) ≡ f i j
+two_counts f i j a b h k = ap (λ x. f x (size_of b)) (size_is a i h) ∙ ap (f i) (size_is b j k)
+
+three_counts : (f : ℕ → ℕ → ℕ → Place) (i j k : ℕ) (a b c : List ℕ) → SpellsWord a (count i) → SpellsWord b (count j) → SpellsWord c (count k)
+    → f (size_of a) (size_of b) (size_of c) ≡ f i j k
+three_counts f i j k a b c g h s = ap (λ x. f x (size_of b) (size_of c)) (size_is a i g) ∙ two_counts (f i) j k b c h s
+
 wide_is : (w : List ℕ) (ws : List (List ℕ)) (p : Place) (o : Op) (l r : Ratio) → SpellWords (w ∷ ws) (place_words p ++ op_word o ∷ Fraction l ∷ Fraction r ∷ []) → wide_in w ws ≡ line.OpenWide p o l r
 unfolding wide_in
 wide_is w ws (place.Ratio i) o l r s = ap (λ x. wide_in x ws) s.0 ∙ one_is ws (λ a. place.Ratio (size_of a)) (count i) _ o l r (λ a h. ap place.Ratio (size_is a i h)) s.1
@@ -234,10 +259,14 @@ wide_is w ws (place.Minus i j) o l r s = ap (λ x. wide_in x ws) s.0
     ∙ two_are ws (λ a b. place.Minus (size_of a) (shown_in b)) (count i) (shown_word j) _ o l r (λ a b h k. ap (λ x. place.Minus x (shown_in b)) (size_is a i h) ∙ ap (λ x. place.Minus i x) (shown_is b j k)) s.1
 wide_is w ws (place.Cost j i) o l r s = ap (λ x. wide_in x ws) s.0
     ∙ two_are ws (λ a b. place.Cost (column_in a) (size_of b)) (Column j) (count i) _ o l r (λ a b h k. ap (λ x. place.Cost x (size_of b)) (column_is a j h) ∙ ap (λ x. place.Cost j x) (size_is b i k)) s.1
-wide_is w ws (place.NewTimes i m) o l r s = ap (λ x. wide_in x ws) s.0
-    ∙ two_are ws (λ a b. place.NewTimes (size_of a) (size_of b)) (count i) (count m) _ o l r (λ a b h k. ap (λ x. place.NewTimes x (size_of b)) (size_is a i h) ∙ ap (λ x. place.NewTimes i x) (size_is b m k)) s.1
-wide_is w ws (place.NewPlus i m) o l r s = ap (λ x. wide_in x ws) s.0
-    ∙ two_are ws (λ a b. place.NewPlus (size_of a) (size_of b)) (count i) (count m) _ o l r (λ a b h k. ap (λ x. place.NewPlus x (size_of b)) (size_is a i h) ∙ ap (λ x. place.NewPlus i x) (size_is b m k)) s.1
+wide_is w ws (place.PriceTimes n m) o l r s = ap (λ x. wide_in x ws) s.0
+    ∙ two_are ws (λ a b. place.PriceTimes (size_of a) (size_of b)) (count n) (count m) _ o l r (two_counts place.PriceTimes n m) s.1
+wide_is w ws (place.PricePlus n m) o l r s = ap (λ x. wide_in x ws) s.0
+    ∙ two_are ws (λ a b. place.PricePlus (size_of a) (size_of b)) (count n) (count m) _ o l r (two_counts place.PricePlus n m) s.1
+wide_is w ws (place.ColumnTimes n i m) o l r s = ap (λ x. wide_in x ws) s.0
+    ∙ three_are ws (λ a b c. place.ColumnTimes (size_of a) (size_of b) (size_of c)) (count n) (count i) (count m) _ o l r (three_counts place.ColumnTimes n i m) s.1
+wide_is w ws (place.ColumnPlus n i m) o l r s = ap (λ x. wide_in x ws) s.0
+    ∙ three_are ws (λ a b c. place.ColumnPlus (size_of a) (size_of b) (size_of c)) (count n) (count i) (count m) _ o l r (three_counts place.ColumnPlus n i m) s.1
 
 -- what a line says, where it says something
 open_in : List (List ℕ) → LineItem

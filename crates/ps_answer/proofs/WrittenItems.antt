@@ -24,7 +24,7 @@ use Rattle.ps_io.specs.LineText.{lines_bytes}
 use Rattle.ps_answer.specs.declared.answer.Answer.{Answer}
 use Rattle.ps_answer.specs.Answers.{answer_items, answer_lines, IsAnswerCounted}
 use Rattle.ps_answer.specs.Faults.{AreLines, AreSpelled, IsText, IsReport}
-use Rattle.ps_answer.specs.Items.{item_words, item_line, place_words, op_word, shown_word, count, HasShortNumbers, IsTold, IsProper, IsWithin, IsSpelled, IsLine, IsPrintable, IsColWithin, IsShownWithin, IsPlaceWithin, IsRatioWithin}
+use Rattle.ps_answer.specs.Items.{item_words, item_line, place_words, op_word, shown_word, count, HasShortNumbers, IsTold, IsProper, IsWithin, IsSpelled, IsLine, IsPrintable, IsWorldWithin, IsColWithin, IsShownWithin, IsPlaceWithin, IsRatioWithin}
 use Rattle.ps_answer.specs.declared.limits.TheConstants.{MOST_OPERAND}
 use Rattle.ps_answer.proofs.Written.{IsWordSmall, no_space, written_both}
 use Rattle.ps_answer.proofs.Single.{one_answer}
@@ -39,6 +39,9 @@ shown_small (shown.Of c) h = col_small c h
 
 row_small : (i : ℕ) → i ≤ 100 → IsShortWord (count i)
 row_small i h = omega (arith, h)
+
+world_small : (n : ℕ) → IsWorldWithin n → IsShortWord (count n)
+world_small n h = omega (arith, h.1)
 
 op_small : (o : Op) → IsShortWord (op_word o)
 op_small op.Add = tt
@@ -58,8 +61,10 @@ place_small (place.Scaled i) more h m = (tt, (row_small i h, m))
 place_small (place.Weight i) more h m = (tt, (row_small i h, m))
 place_small (place.Weighed i) more h m = (tt, (row_small i h, m))
 place_small (place.Total i) more h m = (tt, (row_small i h, m))
-place_small (place.NewTimes i j) more h m = (tt, (row_small i h.0, (row_small j h.1, m)))
-place_small (place.NewPlus i j) more h m = (tt, (row_small i h.0, (row_small j h.1, m)))
+place_small (place.PriceTimes n j) more h m = (tt, (world_small n h.0, (row_small j h.1, m)))
+place_small (place.PricePlus n j) more h m = (tt, (world_small n h.0, (row_small j h.1, m)))
+place_small (place.ColumnTimes n i j) more h m = (tt, (world_small n h.0, (row_small i h.1, (row_small j h.2, m))))
+place_small (place.ColumnPlus n i j) more h m = (tt, (world_small n h.0, (row_small i h.1, (row_small j h.2, m))))
 
 number_small : (z : ℤ) → IsPrintable z → IsShortWord (Number z)
 number_small z h = omega (arith, h)
@@ -144,8 +149,10 @@ place_clean (place.Scaled i) more m = (refl, (tt, m))
 place_clean (place.Weight i) more m = (refl, (tt, m))
 place_clean (place.Weighed i) more m = (refl, (tt, m))
 place_clean (place.Total i) more m = (refl, (tt, m))
-place_clean (place.NewTimes i j) more m = (refl, (tt, (tt, m)))
-place_clean (place.NewPlus i j) more m = (refl, (tt, (tt, m)))
+place_clean (place.PriceTimes n j) more m = (refl, (tt, (tt, m)))
+place_clean (place.PricePlus n j) more m = (refl, (tt, (tt, m)))
+place_clean (place.ColumnTimes n i j) more m = (refl, (tt, (tt, (tt, m))))
+place_clean (place.ColumnPlus n i j) more m = (refl, (tt, (tt, (tt, m))))
 
 numbers_clean : (zs : List ℤ) → AllByRecursion IsClean (map Number zs)
 numbers_clean [] = tt

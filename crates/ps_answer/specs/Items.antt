@@ -58,8 +58,10 @@ place_words (place.Scaled i) = Letters (codes "scaled") ∷ count i ∷ []
 place_words (place.Weight i) = Letters (codes "weight") ∷ count i ∷ []
 place_words (place.Weighed i) = Letters (codes "weighed") ∷ count i ∷ []
 place_words (place.Total i) = Letters (codes "total") ∷ count i ∷ []
-place_words (place.NewTimes i m) = Letters (codes "new-times") ∷ count i ∷ count m ∷ []
-place_words (place.NewPlus i m) = Letters (codes "new-plus") ∷ count i ∷ count m ∷ []
+place_words (place.PriceTimes n m) = Letters (codes "price-times") ∷ count n ∷ count m ∷ []
+place_words (place.PricePlus n m) = Letters (codes "price-plus") ∷ count n ∷ count m ∷ []
+place_words (place.ColumnTimes n i m) = Letters (codes "column-times") ∷ count n ∷ count i ∷ count m ∷ []
+place_words (place.ColumnPlus n i m) = Letters (codes "column-plus") ∷ count n ∷ count i ∷ count m ∷ []
 
 -- the word of a side
 abbrev pub side_word : Bool → Word
@@ -134,17 +136,21 @@ HasShortNumbers i = AllByRecursion IsShortWord (item_words i)
 abbrev pub IsPrintable : ℤ → Type 0
 IsPrintable z = unsigned_abs z ≤ PRINTED_LIMIT
 
--- homes are numbered up to the greatest row, worlds from 1 up to the greatest
+-- worlds are numbered from 1 up to the greatest
+abbrev pub IsWorldWithin : ℕ → Type 0
+IsWorldWithin n = (1 ≤ n) × (n ≤ MOST_WORLD)
+
+-- homes are numbered up to the greatest row
 abbrev pub IsColWithin : Col → Type 0
 IsColWithin (col.Home i) = i ≤ MOST_ROW
-IsColWithin (col.World n) = (1 ≤ n) × (n ≤ MOST_WORLD)
+IsColWithin (col.World n) = IsWorldWithin n
 
 -- the right side, or a column within the limits
 abbrev pub IsShownWithin : TableCol → Type 0
 IsShownWithin shown.Right = ⊤
 IsShownWithin (shown.Of c) = IsColWithin c
 
--- the rows, homes and columns that a place names are within the limits
+-- the rows, homes, worlds and columns that a place names are within the limits
 abbrev pub IsPlaceWithin : Place → Type 0
 IsPlaceWithin (place.Ratio i) = i ≤ MOST_ROW
 IsPlaceWithin (place.Scale j) = IsShownWithin j
@@ -156,8 +162,10 @@ IsPlaceWithin (place.Scaled i) = i ≤ MOST_ROW
 IsPlaceWithin (place.Weight i) = i ≤ MOST_ROW
 IsPlaceWithin (place.Weighed i) = i ≤ MOST_ROW
 IsPlaceWithin (place.Total i) = i ≤ MOST_ROW
-IsPlaceWithin (place.NewTimes i m) = (i ≤ MOST_ROW) × (m ≤ MOST_ROW)
-IsPlaceWithin (place.NewPlus i m) = (i ≤ MOST_ROW) × (m ≤ MOST_ROW)
+IsPlaceWithin (place.PriceTimes n m) = IsWorldWithin n × (m ≤ MOST_ROW)
+IsPlaceWithin (place.PricePlus n m) = IsWorldWithin n × (m ≤ MOST_ROW)
+IsPlaceWithin (place.ColumnTimes n i m) = IsWorldWithin n × (i ≤ MOST_ROW) × (m ≤ MOST_ROW)
+IsPlaceWithin (place.ColumnPlus n i m) = IsWorldWithin n × (i ≤ MOST_ROW) × (m ≤ MOST_ROW)
 
 -- numerator and denominator are at most this in size
 abbrev pub IsRatioWithin : ℕ → Ratio → Type 0

@@ -7,26 +7,29 @@ use Rattle.ps_meaning.specs.Rational.{Rational, neg}
 use Rattle.ps_meaning.specs.Order.{IsNonneg, AtMost, IsAbove, IsLess}
 use Rattle.ps_meaning.proofs.Cross.{same_from_cross}
 use Rattle.ps_meaning.proofs.Order.{at_most_trans, at_most_from_less, at_most_refl, at_most_antisym, not_self_less}
-use Rattle.ps_simplex.specs.Rule.{SimplexTable, GoesBefore, Precedes, ratio, IsRising}
+use Rattle.ps_simplex.specs.Rule.{SimplexTable, Enters, GoesBefore, Precedes, ratio, IsRising}
 use Rattle.ps_simplex.proofs.Signs.{above_or_not}
 use Rattle.ps_table.specs.declared.costs.Costs.{Costs}
 use Rattle.ps_table.specs.declared.col.Col.{Col}
 use Rattle.std.proofs.Common.{append-nil, append_assoc, length-append}
 use Rattle.ps_table.specs.declared.event.Event.{Event}
 use Rattle.ps_table.specs.declared.event.Event.TheVariants.{Pivot, Priced}
-use Rattle.ps_table.specs.Tableau.{Tableau, basic_at, entry_at, IsPivot, number_in, IsTableFor}
+use Rattle.ps_table.specs.Tableau.{Tableau, HasColumn, basic_at, entry_at, IsPivot, number_in, IsTableFor}
 use Rattle.ps_table.specs.Pricing.{cost_at, HasCosts}
-use Rattle.ps_table.specs.Places.{PivotPlaces, IsRefusedAt}
-use Rattle.ps_bland.specs.Rules.{simplex_of, IsLawful}
+use Rattle.ps_table.specs.Places.{PivotPlaces, of_column, of_homes, IsRefusedAt}
+use Rattle.ps_table.specs.declared.place.WideAt.{WideAt}
+use Rattle.ps_table.proofs.Operations.{operation_of}
+use Rattle.ps_bland.specs.Rules.{simplex_of, IsLawful, IsDueToEndIn}
 use Rattle.ps_bland.specs.Runs.{system_of, pivots_of, ArePivots, Ran, Run}
-use Rattle.ps_bland.specs.Ends.{IsDueRefusal}
-use Rattle.ps_bland.specs.Rounds.{IsLeastBefore, IsStep}
+use Rattle.ps_bland.specs.Ends.{IsDueRefusal, IsDueWide}
+use Rattle.ps_bland.specs.Rounds.{IsLeastBefore, IsStep, IsLeavingWide}
+use Rattle.ps_bland.specs.Rounds.IsLeavingWide.{of_column as leaving_column, of_ratio as leaving_ratio}
 use Rattle.ps_simplex.specs.Table.{Based}
 use Rattle.ps_simplex.specs.Pivots.{linear_program, Pivots, IsLawfulAt}
 use Rattle.ps_simplex.specs.Pivots.Pivots.{still as no_moves, more as one_move}
 use Rattle.ps_table.specs.declared.home.Home.{Home}
 use Rattle.ps_simplex.specs.declared.phase.Phase.{Phase}
-use Rattle.ps_bland.specs.Ends.IsDueWide.{at_pivot}
+use Rattle.ps_bland.specs.Ends.IsDueWide.{at_column, at_ratio, at_pivot}
 use Rattle.ps_table.specs.declared.error.TableError.{TableError}
 use Rattle.ps_table.specs.declared.error.TableError.TheVariants.{Wide, NoMemory}
 use Rattle.ps_bland.specs.Runs.Run.{still, more}
@@ -165,5 +168,16 @@ costs_kept costs enter leave t u pivot h = record {
 }
 
 pub due_refusal : (phase : Phase) (costs : Costs) (t : Tableau) (left : ℕ) (q : Col) (p : ℕ) → 0 < left → IsLawful phase costs t q p → (e : TableError) → IsRefusedAt (PivotPlaces t p q) e → IsDueRefusal phase costs t left e
-due_refusal phase costs t left q p some lawful (Wide w) h = at_pivot q p some lawful h
+due_refusal phase costs t left q p some lawful (Wide w) h = by_place h.at
+  where
+    by_place : PivotPlaces t p q (operation_of w) → IsDueWide phase costs t left w
+    by_place (of_column i hi at) =
+        at_column q lawful.unfinished some lawful.inside lawful.enters (record { row = i; within = hi; wide = record { at = at; wide = h.wide } })
+    by_place (of_homes at) = at_pivot q p some lawful (record { at = at; wide = h.wide })
 due_refusal phase costs t left q p some lawful NoMemory h = record { enter = q; leave = p; lawful = lawful; some_left = some }
+
+-- a refusal as the leaving row is looked for
+pub leaving_due : (phase : Phase) (costs : Costs) (t : Tableau) (left : ℕ) (q : Col) (w : WideAt) → (IsDueToEndIn phase t → ⊥) → 0 < left → HasColumn t q
+    → Enters (simplex_of t) (cost_at costs) (number_in (length t.kinds) q) → IsLeavingWide phase t q w → IsDueWide phase costs t left w
+leaving_due phase costs t left q w unfinished some inside enters (leaving_column h) = at_column q unfinished some inside enters h
+leaving_due phase costs t left q w unfinished some inside enters (leaving_ratio ratios h) = at_ratio q unfinished some inside enters ratios h

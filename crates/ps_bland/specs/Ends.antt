@@ -1,5 +1,5 @@
 -- How the pivots of a phase end, and which places are due.
-use Rattle.std.specs.Prelude.{◌≡◌, ℕ, ◌<◌, false, Result, Ok, Err}
+use Rattle.std.specs.Prelude.{◌≡◌, ℕ, suc, ◌+◌, ◌<◌, true, false, Result, Ok, Err}
 use Rattle.ps_frac.specs.declared.wide.Op.TheVariants.{Div}
 use Rattle.ps_simplex.specs.Rule.{SimplexTable, Improves, IsMoving, IsResting, Enters, IsRising, HasNoArtificialRow}
 use Rattle.ps_table.specs.declared.col.Col.{Col}
@@ -8,14 +8,14 @@ use Rattle.ps_table.specs.declared.place.Place.TheVariants.{Ratio}
 use Rattle.ps_table.specs.declared.place.WideAt.{WideAt}
 use Rattle.ps_table.specs.declared.error.TableError.{TableError}
 use Rattle.ps_table.specs.declared.error.TableError.TheVariants.{Wide, NoMemory}
-use Rattle.ps_table.specs.Tableau.{Tableau, number_of, entry_at, HasColumn}
+use Rattle.ps_table.specs.Tableau.{Tableau, rows_of, number_of, home_at, entry_at, HasColumn, HasWorld}
 use Rattle.ps_table.specs.Pricing.{cost_at}
-use Rattle.ps_table.specs.Places.{IsOperationWide, IsWideAt, PivotPlaces, CostPlaces}
+use Rattle.ps_table.specs.Places.{IsOperationWide, IsWideAt, IsColumnWide, PivotPlace, HomePlaces, PricePlaces, column_of}
 use Rattle.ps_simplex.specs.declared.phase.Phase.{Phase}
 use Rattle.ps_simplex.specs.declared.phase.Phase.TheVariants.{One, Lower, Upper}
 use Rattle.ps_bland.specs.declared.settled.Settled.{Settled}
 use Rattle.ps_bland.specs.declared.settled.Settled.TheVariants.{Feasible, AtRest, OutOfPivots}
-use Rattle.ps_bland.specs.Rules.{IsDueToEndIn, IsLawful, is_artificial_column, simplex_of}
+use Rattle.ps_bland.specs.Rules.{IsDueToEndIn, IsLawful, artificial_at, simplex_of}
 
 -- the ratio of a row in column q is too wide
 pub record IsRatioWide (t : Tableau) (q : ℕ) (w : WideAt) : Type 0 where
@@ -24,13 +24,31 @@ pub record IsRatioWide (t : Tableau) (q : ℕ) (w : WideAt) : Type 0 where
   pub is : w ≡ record { place = Ratio row; op = Div; left = entry_at t row 0; right = entry_at t row q }
   pub wide : IsOperationWide Div (entry_at t row 0) (entry_at t row q)
 
--- what is carried of a slack or a world is too wide, and no column before it improves
-pub record IsCarriedWide (costs : Costs) (t : Tableau) (w : WideAt) : Type 0 where
-  pub column : Col
-  pub inside : HasColumn t column
-  pub real : is_artificial_column t column ≡ false
-  pub least : (j : ℕ) → j < number_of t column → Improves (simplex_of t) (cost_at costs) j → ⊥
-  pub wide : IsWideAt (CostPlaces t costs column) w
+-- the home of row m is priced: a slack where no slack before it improves, an artificial where no slack improves
+pub data IsPriced (costs : Costs) (t : Tableau) (m : ℕ) : Type 0 where
+  as_slack : artificial_at t.kinds (suc m) ≡ false
+      → ((j : ℕ) → j < suc m → Improves (simplex_of t) (cost_at costs) j → ⊥) → IsPriced costs t m
+  as_artificial : artificial_at t.kinds (suc m) ≡ true
+      → ((j : ℕ) → j < suc (rows_of t) → Improves (simplex_of t) (cost_at costs) j → ⊥) → IsPriced costs t m
+
+-- what is carried of a home that is priced is too wide
+pub record IsHomeWide (costs : Costs) (t : Tableau) (w : WideAt) : Type 0 where
+  pub row : ℕ
+  pub within : row < rows_of t
+  pub priced : IsPriced costs t row
+  pub wide : IsWideAt (HomePlaces t costs row) w
+
+-- the price of a world is too wide, and no slack and no world before it improves
+pub record IsPriceWide (costs : Costs) (t : Tableau) (w : WideAt) : Type 0 where
+  pub world : ℕ
+  pub inside : HasWorld t world
+  pub least : (j : ℕ) → j < rows_of t + world → Improves (simplex_of t) (cost_at costs) j → ⊥
+  pub wide : IsWideAt (PricePlaces t costs world) w
+
+-- what is carried of a home or a world is too wide where it is due
+pub data IsCarriedWide (costs : Costs) (t : Tableau) (w : WideAt) : Type 0 where
+  of_home : IsHomeWide costs t w → IsCarriedWide costs t w
+  of_world : IsPriceWide costs t w → IsCarriedWide costs t w
 
 -- the least ratio decides which row leaves: in phase two there is no artificial row
 abbrev pub RatiosDecide : Phase → SimplexTable → ℕ → Type 0
@@ -49,15 +67,18 @@ pub record IsPivotDue (phase : Phase) (costs : Costs) (t : Tableau) (left : ℕ)
   pub lawful : IsLawful phase costs t enter leave
   pub some_left : 0 < left
 
--- the operands at a due place of the table, where they are too wide; ratios and pivots are due only while a pivot is left
+-- the operands at a due place of the table, where they are too wide; a column that enters, ratios and pivots are due only while
+-- a pivot is left
 pub data IsDueWide (phase : Phase) (costs : Costs) (t : Tableau) (left : ℕ) (w : WideAt) : Type 0 where
   at_cost : (IsDueToEndIn phase t → ⊥) → IsCarriedWide costs t w → IsDueWide phase costs t left w
+  at_column : (q : Col) → (IsDueToEndIn phase t → ⊥) → 0 < left → HasColumn t q
+      → Enters (simplex_of t) (cost_at costs) (number_of t q) → IsColumnWide t q w → IsDueWide phase costs t left w
   at_ratio : (q : Col) → (IsDueToEndIn phase t → ⊥) → 0 < left → HasColumn t q
       → Enters (simplex_of t) (cost_at costs) (number_of t q)
       → IsLeftToRatios phase t (number_of t q) → IsRatioWide t (number_of t q) w → IsDueWide phase costs t left w
   at_pivot : (q : Col) (p : ℕ) → 0 < left
       → IsLawful phase costs t q p
-      → IsWideAt (PivotPlaces t p q) w → IsDueWide phase costs t left w
+      → IsWideAt (PivotPlace (rows_of t) (home_at t) (column_of t q) p) w → IsDueWide phase costs t left w
 
 -- the operands at no due place of the table are too wide
 abbrev pub AreDueNarrow : Phase → Costs → Tableau → ℕ → Type 0

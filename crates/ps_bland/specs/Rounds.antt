@@ -1,5 +1,5 @@
 -- What the code has looked at so far, and what one round does.
-use Rattle.std.specs.Prelude.{◌≡◌, ◌≢◌, ℕ, suc, ◌<◌, true, false, List, [], ◌∷◌, ◌++◌}
+use Rattle.std.specs.Prelude.{◌≡◌, ◌≢◌, ℕ, suc, ◌<◌, ◌≤◌, true, false, List, [], ◌∷◌, ◌++◌}
 use Rattle.std.specs.Prelude.{Option, Some, None, IfNone, Result, Ok, Err, IfOk}
 use Rattle.ps_meaning.specs.Rational.{Rational, zero_q}
 use Rattle.ps_simplex.specs.Rule.{Improves, Enters, IsRising, IsArtificialRow, HasNoArtificialRow, IsLeastArtificialRow}
@@ -10,7 +10,7 @@ use Rattle.ps_table.specs.declared.place.WideAt.{WideAt}
 use Rattle.ps_table.specs.declared.error.TableError.{TableError}
 use Rattle.ps_table.specs.Tableau.{Tableau, number_of, entry_at, entry_of, basic_at, HasColumn, IsPivot, KeepsSystem, rows_of}
 use Rattle.ps_table.specs.Pricing.{cost_at}
-use Rattle.ps_table.specs.Places.{CostPlaces, IsNarrow}
+use Rattle.ps_table.specs.Places.{HomePlaces, PricePlaces, IsColumnWide, IsNarrow}
 use Rattle.ps_table.specs.declared.event.Event.{Event}
 use Rattle.ps_table.specs.declared.event.Event.TheVariants.{Pivot}
 use Rattle.ps_simplex.specs.declared.phase.Phase.{Phase}
@@ -60,10 +60,6 @@ HasEntryIn t c p = entry_of t p c ≢ zero_q
 -- no row before this one has an entry above 0 in the column
 abbrev pub NoneRisesBefore : Tableau → Col → ℕ → Type 0
 NoneRisesBefore t c n = (i : ℕ) → i < n → IsRising (simplex_of t) (number_of t c) i → ⊥
-
--- a ratio of the column is too wide
-abbrev pub IsRatioWideIn : Tableau → Col → WideAt → Type 0
-IsRatioWideIn t c = IsRatioWide t (number_of t c)
 
 -- the least ratio decides which row leaves
 abbrev pub IsLeftToRatiosIn : Phase → Tableau → Col → Type 0
@@ -121,15 +117,18 @@ CanLeave Upper t q = HasNoArtificialRow (simplex_of t) q → HasRising t q
 abbrev pub AreCarriedNarrow : Costs → Tableau → Type 0
 AreCarriedNarrow costs t = (w : WideAt) → ¬ IsCarriedWide costs t w
 
--- no sum is too wide for a slack or a world before number m
-abbrev pub AreNarrowBefore : Costs → Tableau → ℕ → Type 0
-AreNarrowBefore costs t m = (c : Col) → HasColumn t c → is_artificial_column t c ≡ false → number_of t c < m
-    → IsNarrow (CostPlaces t costs c)
+-- no sum is too wide for a slack of a row before row m
+abbrev pub AreSlacksNarrowTo : Costs → Tableau → ℕ → Type 0
+AreSlacksNarrowTo costs t m = (k : ℕ) → k < m → artificial_at t.kinds (suc k) ≡ false → IsNarrow (HomePlaces t costs k)
 
--- no sum is too wide up to the entering column, or before number n where none was found
-abbrev pub AreNarrowTo : Costs → Tableau → ℕ → Option Col → Type 0
-AreNarrowTo costs t n (Some q) = AreNarrowBefore costs t (suc (number_of t q))
-AreNarrowTo costs t n None = AreNarrowBefore costs t n
+-- no price is too wide for a world up to world k
+abbrev pub ArePricesNarrowTo : Costs → Tableau → ℕ → Type 0
+ArePricesNarrowTo costs t k = (m : ℕ) → 0 < m → m ≤ k → IsNarrow (PricePlaces t costs m)
+
+-- where the first slack that improves enters, no due sum is too wide
+abbrev pub IsFirstNarrow : Costs → Tableau → Option Col → Type 0
+IsFirstNarrow costs t (Some q) = AreCarriedNarrow costs t
+IsFirstNarrow costs t None = Unit {0}
 
 -- a round that comes to an end leaves no due place too wide
 abbrev pub IsNarrowEnd : Phase → Costs → Tableau → ℕ → Option Settled → Type 0
@@ -156,6 +155,16 @@ IsLeastBeforeIn t c n p = IsLeastBefore t (number_of t c) n p
 abbrev pub IsEnteringHome : Costs → Tableau → Option Col → Type 0
 IsEnteringHome costs t = IsEnteringBefore costs t (suc (rows_of t))
 
--- no sum is too wide up to the first slack that improves, or for any slack where none was found
-abbrev pub AreNarrowToHome : Costs → Tableau → Option Col → Type 0
-AreNarrowToHome costs t = AreNarrowTo costs t (suc (rows_of t))
+-- no column up to the homes improves
+abbrev pub NoHomeImproves : Costs → Tableau → Type 0
+NoHomeImproves costs t = (j : ℕ) → j < suc (rows_of t) → Improves (simplex_of t) (cost_at costs) j → ⊥
+
+-- an operation for the column, or a ratio of it, is too wide
+pub data IsLeastWide (t : Tableau) (c : Col) (w : WideAt) : Type 0 where
+  in_column : IsColumnWide t c w → IsLeastWide t c w
+  in_ratio : IsRatioWide t (number_of t c) w → IsLeastWide t c w
+
+-- an operation for the column is too wide, or a ratio of it where the least ratio decides which row leaves
+pub data IsLeavingWide (phase : Phase) (t : Tableau) (c : Col) (w : WideAt) : Type 0 where
+  of_column : IsColumnWide t c w → IsLeavingWide phase t c w
+  of_ratio : IsLeftToRatios phase t (number_of t c) → IsRatioWide t (number_of t c) w → IsLeavingWide phase t c w

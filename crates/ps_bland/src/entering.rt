@@ -1,17 +1,18 @@
 //! The entering column.
-ghost use Rattle.std.specs.Prelude.{◌≡◌, ◌↔◌, false, IfOk, IfErr, IsTrue};
+ghost use Rattle.std.specs.Prelude.{◌≡◌, ◌↔◌, suc, ◌<◌, false, IfOk, IfErr, IfSome, IsTrue};
 ghost use Rattle.ps_meaning.specs.Order.{IsLess};
-ghost use Rattle.ps_table.specs.Tableau.{HasColumn};
-ghost use Rattle.ps_table.specs.Pricing.{HasCosts};
-ghost use Rattle.ps_table.specs.Places.{CostPlaces, IsWideAt, IsNarrow};
-ghost use Rattle.ps_bland.specs.Rules.{is_artificial_column};
+ghost use Rattle.ps_table.specs.Tableau.{HasWorld, rows_of};
+ghost use Rattle.ps_table.specs.Pricing.{HasCosts, carried_of};
+ghost use Rattle.ps_table.specs.Places.{HomePlaces, PricePlaces, WorldPlaces, IsWideAt, IsNarrow};
+ghost use Rattle.ps_table.specs.Prices.{AreMultipliers, AreMultipliersNarrow, IsMultiplierWide};
+ghost use Rattle.ps_bland.specs.Rules.{artificial_at};
 ghost use Rattle.ps_bland.specs.Ends.{IsCarriedWide};
-ghost use Rattle.ps_bland.specs.Rounds.{ImprovesIn, IsEntering, AreCarriedNarrow};
-ghost use Rattle.ps_bland.specs.Rounds.{IsEnteringHome, AreNarrowToHome};
+ghost use Rattle.ps_bland.specs.Rounds.{ImprovesIn, IsEntering, AreCarriedNarrow, NoHomeImproves};
+ghost use Rattle.ps_bland.specs.Rounds.{IsEnteringHome, IsFirstNarrow};
 
 use crate::columns::is_artificial;
 use ps_frac::Fraction;
-use ps_table::{Col, Costs, Table, WideAt};
+use ps_table::{Col, Costs, Multipliers, Table, TableError, WideAt};
 use std::cmp::Ordering;
 
 /// Whether a number is less than another.
@@ -21,30 +22,121 @@ fn is_less(left: &Fraction, right: &Fraction) -> bool
     left.cmp(right) == Ordering::Less
 }
 
-/// Whether a slack or a world carries more than its cost.
-fn improves(table: &Table, costs: &Costs, col: Col) -> Result<bool, WideAt>
+/// Whether a slack carries more than its cost.
+fn slack_improves(table: &Table, costs: &Costs, row: u32) -> Result<bool, WideAt>
     requires costs { HasCosts costs.now table.now }
-    requires inside { HasColumn table.now col }
-    requires real { is_artificial_column table.now col ≡ false }
-    ensures value { IfOk result (λ b. IsTrue b ↔ ImprovesIn costs.now table.now col) }
-    ensures narrow { IfOk result (λ _. IsNarrow (CostPlaces table.now costs.now col)) }
-    ensures refused { IfErr result (IsWideAt (CostPlaces table.now costs.now col)) }
+    requires row { row < rows_of table.now }
+    requires slack { artificial_at table.now.kinds (suc row) ≡ false }
+    ensures value { IfOk result (λ b. IsTrue b ↔ ImprovesIn costs.now table.now (Col.Home row)) }
+    ensures narrow { IfOk result (λ _. IsNarrow (HomePlaces table.now costs.now row)) }
+    ensures refused { IfErr result (IsWideAt (HomePlaces table.now costs.now row)) }
 {
-    let carried = table.carried(costs, col)?;
-    Ok(is_less(&table.cost(costs, col), &carried))
+    let carried = table.multiplier(costs, row)?;
+    Ok(is_less(&table.cost(costs, Col::Home(row)), &carried))
 }
 
 /// The first slack that improves.
 fn entering_home(table: &Table, costs: &Costs) -> Result<Option<Col>, WideAt>
     requires { HasCosts costs.now table.now }
     ensures found { IfOk result (IsEnteringHome costs.now table.now) }
-    ensures narrow { IfOk result (AreNarrowToHome costs.now table.now) }
+    ensures narrow { IfOk result (IsFirstNarrow costs.now table.now) }
     ensures refused { IfErr result (IsCarriedWide costs.now table.now) }
 {
     for row in 0..table.rows() {
         let col = Col::Home(row);
-        if !is_artificial(table, col) && improves(table, costs, col)? {
+        if !is_artificial(table, col) && slack_improves(table, costs, row)? {
             return Ok(Some(col));
+        }
+    }
+    Ok(None)
+}
+
+/// Makes each multiplier, and keeps none.
+fn try_multipliers(table: &Table, costs: &Costs) -> Result<(), WideAt>
+    requires { HasCosts costs.now table.now }
+    ensures narrow { IfOk result (λ _. AreMultipliersNarrow table.now costs.now) }
+    ensures refused { IfErr result (IsMultiplierWide table.now costs.now) }
+{
+    for row in 0..table.rows() {
+        table.multiplier(costs, row)?;
+    }
+    Ok(())
+}
+
+/// The multipliers of all rows; none is kept where there is no memory for them.
+fn multipliers(table: &Table, costs: &Costs) -> Result<Option<Multipliers>, WideAt>
+    requires { HasCosts costs.now table.now }
+    ensures held { IfOk result (λ held. IfSome held (AreMultipliers table.now costs.now)) }
+    ensures narrow { IfOk result (λ _. AreMultipliersNarrow table.now costs.now) }
+    ensures refused { IfErr result (IsMultiplierWide table.now costs.now) }
+{
+    match table.multipliers(costs) {
+        Ok(multipliers) => Ok(Some(multipliers)),
+        Err(TableError::Wide(wide)) => Err(wide),
+        Err(TableError::NoMemory) => {
+            try_multipliers(table, costs)?;
+            Ok(None)
+        }
+    }
+}
+
+/// What is carried of a world, by the multipliers where they are kept.
+fn carried_of_world(
+    table: &Table,
+    costs: &Costs,
+    held: &Option<Multipliers>,
+    number: u32,
+) -> Result<Fraction, WideAt>
+    requires costs { HasCosts costs.now table.now }
+    requires held { IfSome held.now (AreMultipliers table.now costs.now) }
+    requires world { HasWorld table.now number }
+    ensures value { IfOk result (λ r. r ≡ carried_of table.now costs.now (Col.World number)) }
+    ensures narrow { IfOk result (λ _. IsNarrow (PricePlaces table.now costs.now number)) }
+    ensures refused { IfErr result (IsWideAt (WorldPlaces table.now costs.now number)) }
+{
+    match held {
+        Some(multipliers) => table.price(costs, multipliers, number),
+        None => table.carried(costs, Col::World(number)),
+    }
+}
+
+/// Whether a world carries more than its cost.
+fn world_improves(
+    table: &Table,
+    costs: &Costs,
+    held: &Option<Multipliers>,
+    number: u32,
+) -> Result<bool, WideAt>
+    requires costs { HasCosts costs.now table.now }
+    requires held { IfSome held.now (AreMultipliers table.now costs.now) }
+    requires world { HasWorld table.now number }
+    ensures value { IfOk result
+        (λ b. IsTrue b ↔ ImprovesIn costs.now table.now (Col.World number)) }
+    ensures narrow { IfOk result (λ _. IsNarrow (PricePlaces table.now costs.now number)) }
+    ensures refused { IfErr result (IsWideAt (WorldPlaces table.now costs.now number)) }
+{
+    let carried = carried_of_world(table, costs, held, number)?;
+    Ok(is_less(&table.cost(costs, Col::World(number)), &carried))
+}
+
+/// The first world that improves, where no slack does.
+fn entering_world(
+    table: &Table,
+    costs: &Costs,
+    held: &Option<Multipliers>,
+) -> Result<Option<Col>, WideAt>
+    requires costs { HasCosts costs.now table.now }
+    requires held { IfSome held.now (AreMultipliers table.now costs.now) }
+    requires homes { NoHomeImproves costs.now table.now }
+    requires multipliers { AreMultipliersNarrow table.now costs.now }
+    ensures found { IfOk result (IsEntering costs.now table.now) }
+    ensures narrow { IfOk result (λ _. AreCarriedNarrow costs.now table.now) }
+    ensures refused { IfErr result (IsCarriedWide costs.now table.now) }
+{
+    for before in 0..table.worlds() {
+        let number = before + 1;
+        if world_improves(table, costs, held, number)? {
+            return Ok(Some(Col::World(number)));
         }
     }
     Ok(None)
@@ -60,11 +152,6 @@ pub(crate) fn entering(table: &Table, costs: &Costs) -> Result<Option<Col>, Wide
     if let Some(col) = entering_home(table, costs)? {
         return Ok(Some(col));
     }
-    for before in 0..table.worlds() {
-        let col = Col::World(before + 1);
-        if improves(table, costs, col)? {
-            return Ok(Some(col));
-        }
-    }
-    Ok(None)
+    let held = multipliers(table, costs)?;
+    entering_world(table, costs, &held)
 }

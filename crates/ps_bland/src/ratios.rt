@@ -1,8 +1,8 @@
 //! The row of least ratio.
-ghost use Rattle.std.specs.Prelude.{◌≡◌, suc, ◌<◌, false, IfOk, IfErr, IsTrue};
+ghost use Rattle.std.specs.Prelude.{◌≡◌, ◌↔◌, suc, ◌<◌, false, IfOk, IfErr, IsTrue};
 ghost use Rattle.ps_table.specs.Tableau.{rows_of, HasColumn};
 ghost use Rattle.ps_bland.specs.Rounds.{IsRisingIn, HasRisingIn, NoneRisesBefore, HasEntryIn};
-ghost use Rattle.ps_bland.specs.Rounds.{ratio_in, IsRatioWideIn, GoesBeforeRow};
+ghost use Rattle.ps_bland.specs.Rounds.{ratio_in, IsLeastWide, GoesBeforeRow};
 ghost use Rattle.ps_bland.specs.Rounds.{IsLeastBeforeIn, HasLeastRatioIn};
 
 use crate::columns::is_above;
@@ -15,22 +15,35 @@ fn ratio_at(table: &Table, col: Col, row: u32) -> Result<Fraction, WideAt>
     requires inside { HasColumn table.now col }
     requires rising { IsRisingIn table.now col row }
     ensures value { IfOk result (λ r. r ≡ ratio_in table.now col row) }
-    ensures refused { IfErr result (IsRatioWideIn table.now col) }
+    ensures refused { IfErr result (IsLeastWide table.now col) }
 {
     let place = Place::Ratio { row };
-    divided_at(place, &table.value(row), &table.entry(row, col))
+    let entry = table.entry(row, col)?;
+    divided_at(place, &table.value(row), &entry)
+}
+
+/// Whether the column's entry in a row is above 0.
+fn rises(table: &Table, col: Col, row: u32) -> Result<bool, WideAt>
+    requires inside { HasColumn table.now col }
+    requires row { row < rows_of table.now }
+    ensures value { IfOk result (λ b. IsTrue b ↔ IsRisingIn table.now col row) }
+    ensures refused { IfErr result (IsLeastWide table.now col) }
+{
+    let entry = table.entry(row, col)?;
+    Ok(is_above(&entry))
 }
 
 /// The first row where the column's entry is above 0.
-fn first_rising(table: &Table, col: Col) -> u32
+fn first_rising(table: &Table, col: Col) -> Result<u32, WideAt>
     requires inside { HasColumn table.now col }
     requires rise { HasRisingIn table.now col }
-    ensures rising { IsRisingIn table.now col result }
-    ensures first { NoneRisesBefore table.now col result }
+    ensures rising { IfOk result (IsRisingIn table.now col) }
+    ensures first { IfOk result (NoneRisesBefore table.now col) }
+    ensures refused { IfErr result (IsLeastWide table.now col) }
 {
     for row in 0..table.rows() {
-        if is_above(&table.entry(row, col)) {
-            return row;
+        if rises(table, col, row)? {
+            return Ok(row);
         }
     }
     unreachable!()
@@ -67,9 +80,9 @@ fn with_row(table: &Table, col: Col, row: u32, best: Best) -> Result<Best, WideA
     requires best_ratio { best.ratio ≡ ratio_in table.now col best.row }
     ensures best { IfOk result (λ b. IsLeastBeforeIn table.now col (suc row) b.row) }
     ensures best_ratio { IfOk result (λ b. b.ratio ≡ ratio_in table.now col b.row) }
-    ensures refused { IfErr result (IsRatioWideIn table.now col) }
+    ensures refused { IfErr result (IsLeastWide table.now col) }
 {
-    if !is_above(&table.entry(row, col)) {
+    if !rises(table, col, row)? {
         return Ok(best);
     }
     let ratio = ratio_at(table, col, row)?;
@@ -86,10 +99,10 @@ pub(crate) fn least_row(table: &Table, col: Col) -> Result<u32, WideAt>
     requires rise { HasRisingIn table.now col }
     ensures least { IfOk result (HasLeastRatioIn table.now col) }
     ensures pivot { IfOk result (HasEntryIn table.now col) }
-    ensures refused { IfErr result (IsRatioWideIn table.now col) }
+    ensures refused { IfErr result (IsLeastWide table.now col) }
 {
     let rows = table.rows();
-    let first = first_rising(table, col);
+    let first = first_rising(table, col)?;
     let ratio = ratio_at(table, col, first)?;
     let mut best = Best { row: first, ratio };
     for row in first + 1..rows {

@@ -1,14 +1,12 @@
 -- What a phase does after what it did before.
-use Rattle.std.proofs.Common.{◌≡◌, ℕ, ◌+◌, ◌≤◌, List, ◌++◌, length, Option, Some, None, inl, inr, refl, ap, ◌∙◌, arith}
+use Rattle.std.proofs.Common.{◌≡◌, ℕ, ◌+◌, ◌≤◌, List, ◌++◌, length, Option, Some, None, refl, ap, ◌∙◌, arith}
 use Rattle.std.proofs.lemmas.List.{append_assoc}
 use Rattle.ps_meaning.specs.Formula.{World}
 use Rattle.ps_table.specs.declared.event.Event.{Event}
 use Rattle.ps_table.specs.declared.costs.Costs.{Costs}
-use Rattle.ps_table.specs.declared.place.WideAt.{WideAt}
 use Rattle.ps_table.specs.Tableau.{Tableau}
 use Rattle.ps_bland.specs.Rules.{simplex_of}
 use Rattle.ps_answer.specs.declared.answer.Cause.{Cause}
-use Rattle.ps_answer.specs.declared.answer.Cause.TheVariants.{Pivots, Conflicts, Wide}
 use Rattle.ps_claims.specs.declared.claim_kind.ClaimKind.{ClaimKind}
 use Rattle.ps_claims.specs.declared.claim_kind.ClaimKind.TheVariants.{Nothing, Lower, Upper}
 use Rattle.ps_simplex.specs.Rule.{IsFeasible}
@@ -20,7 +18,7 @@ use Rattle.ps_runs.proofs.GoingOn.{begun}
 use Rattle.ps_runs.specs.declared.state.State.{State}
 use Rattle.ps_generation.specs.declared.end.End.{End}
 use Rattle.ps_generation.specs.declared.end.End.TheVariants.{Feasible, NoneAbove, Open}
-use Rattle.ps_generation.specs.Phases.{LimitedSubject, IsInPhase, HasCome, IsOpenEnd, IsPendingEnd, IsEnd, IsLeft}
+use Rattle.ps_generation.specs.Phases.{LimitedSubject, IsInPhase, HasCome, IsOpenEnd, IsEnd, IsLeft}
 use Rattle.ps_generation.specs.Rounds.{HasEntered, IsPhaseSettled, IsRound}
 
 pub way_on : (kind : ClaimKind) (s : Subject) (conflicts : ℕ) (from : Stage) (had : ℕ) (before : List Event) (pool : List World) (t : Tableau) (trace : List Event) (left : ℕ)
@@ -53,24 +51,11 @@ module _ (kind : ClaimKind) (r : LimitedSubject) where
     open_on : (cause : Cause) → IsOpenEnd kind r b c cause → IsOpenEnd kind r a c cause
     open_on cause end = record { come = come_on end.come; licensed = end.licensed }
 
-    pending_on : (at : WideAt) → IsPendingEnd kind r b c at → IsPendingEnd kind r a c at
-    pending_on at end = record {
-      trace = end.trace;
-      world = end.world;
-      appended = end.appended;
-      way = way_on kind r.subject r.limits.conflicts (stage_at a.pool a.table) a.left a.trace b.pool b.table b.trace b.left c.pool c.table end.trace c.left come.way end.way;
-      priced = end.priced;
-      wide = end.wide;
-    }
-
     -- an end that comes later is one of the whole
     pub end_on : (end : End) → IsEnd kind r b c end → IsEnd kind r a c end
     end_on Feasible h = (come_on h.0, h.1)
     end_on (NoneAbove d) h = (come_on h.0, h.1)
-    end_on (Open (Pivots limit)) h = open_on (Pivots limit) h
-    end_on (Open (Conflicts limit goal steps)) h = open_on (Conflicts limit goal steps) h
-    end_on (Open (Wide at)) (inl h) = inl (open_on (Wide at) h)
-    end_on (Open (Wide at)) (inr h) = inr (pending_on at h)
+    end_on (Open cause) h = open_on cause h
 
     -- a world has entered, and the pivots behind it are a round's
     pub round_on : HasEntered kind r a b → (end : Option End) → c.pool ≡ b.pool → IsPhaseSettled kind r b c end → IsRound kind r a c end

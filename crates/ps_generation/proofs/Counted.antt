@@ -1,27 +1,23 @@
 -- A phase makes few pivots, since between two pricings it meets no basis twice.
-use Rattle.std.proofs.Common.{◌≡◌, ℕ, suc, ◌+◌, ◌^◌, ◌<◌, inl, inr, List, [], ◌∷◌, ◌++◌, length, append_assoc, sym, ap, ◌∙◌, subst, arith}
+use Rattle.std.proofs.Common.{◌≡◌, ℕ, suc, ◌+◌, ◌^◌, ◌<◌, List, ◌++◌, length, sym, ap, ◌∙◌, subst, arith}
 use Rattle.std.proofs.lemmas.List.{append_cancel_left}
 use Rattle.ps_meaning.specs.Formula.{World}
 use Rattle.ps_simplex.specs.Count.{choose}
 use Rattle.ps_simplex.proofs.Ways.{choose_next, more_things}
 use Rattle.ps_simplex.proofs.Worlds.{few_worlds}
 use Rattle.ps_table.specs.declared.event.Event.{Event}
-use Rattle.ps_table.specs.declared.event.Event.TheVariants.{Priced}
 use Rattle.ps_table.specs.declared.costs.Costs.{Costs}
 use Rattle.ps_table.specs.declared.home.Home.{Home}
-use Rattle.ps_table.specs.declared.place.WideAt.{WideAt}
 use Rattle.ps_bland.specs.Runs.{MadeFewerThanBases}
-use Rattle.ps_answer.specs.declared.answer.Cause.TheVariants.{Pivots, Conflicts, Wide}
 use Rattle.ps_claims.specs.declared.claim_kind.ClaimKind.{ClaimKind}
 use Rattle.ps_runs.specs.Rows.{rows_of, columns_of}
 use Rattle.ps_runs.specs.Subjects.{Subject, setting_of, atoms_of}
 use Rattle.ps_runs.specs.Runs.{IsPool, pivots_in}
-use Rattle.ps_runs.proofs.Composed.{pivots_in-append}
 use Rattle.ps_runs.proofs.Shapes.{homes_count}
 use Rattle.ps_runs.specs.declared.state.State.{State}
 use Rattle.ps_generation.specs.declared.end.End.{End}
 use Rattle.ps_generation.specs.declared.end.End.TheVariants.{Feasible, NoneAbove, Open}
-use Rattle.ps_generation.specs.Phases.{LimitedSubject, IsInPhase, HasCome, IsPendingEnd, IsEnd}
+use Rattle.ps_generation.specs.Phases.{LimitedSubject, IsInPhase, HasCome, IsEnd}
 use Rattle.ps_generation.specs.Counts.{SettlesInFewerThanBases, pivot_bound, IsBelowBound, StaysBelowBound, MakesFewPivots}
 
 -- the pivots of one settling
@@ -82,23 +78,10 @@ module _ (kind : ClaimKind) (r : LimitedSubject) (old new : State) (events : Lis
       let way = come.way in
       subst (λ (es : List Event). new.left + pivots_in es ≡ old.left) (append_cancel_left old.trace way.events events (sym way.appended ∙ behind)) way.counted
 
-  counted_pending : (at : WideAt) → IsPendingEnd kind r old new at → new.left + pivots_in events ≡ old.left
-  counted_pending at end =
-      let way = end.way in
-      let last : List Event = Priced end.world ∷ [] in
-      let whole : old.trace ++ (way.events ++ last) ≡ old.trace ++ events = sym (append_assoc old.trace way.events last) ∙ ap (λ (es : List Event). es ++ last) (sym way.appended) ∙ sym end.appended ∙ behind in
-      let same = append_cancel_left old.trace (way.events ++ last) events whole in
-      let both = pivots_in-append way.events last in
-      let counted = way.counted in
-      subst (λ (es : List Event). new.left + pivots_in es ≡ old.left) same (omega (arith, both, counted))
-
   counted_at : (end : End) → IsEnd kind r old new end → new.left + pivots_in events ≡ old.left
   counted_at Feasible h = counted_on h.0
   counted_at (NoneAbove d) h = counted_on h.0
-  counted_at (Open (Pivots limit)) h = counted_on h.come
-  counted_at (Open (Conflicts limit goal steps)) h = counted_on h.come
-  counted_at (Open (Wide at)) (inl h) = counted_on h.come
-  counted_at (Open (Wide at)) (inr h) = counted_pending at h
+  counted_at (Open cause) h = counted_on h.come
 
 -- no world stands twice in the pool, so there are at most all worlds
 pub few_at : (kind : ClaimKind) (r : LimitedSubject) (old new : State) (end : End) → IsEnd kind r old new end → IsPool (atoms_of r.subject) new.pool → IsBelowBound r.subject old.left new → MakesFewPivots r.subject old new

@@ -1,19 +1,14 @@
--- A priced world that enters, or is left pending.
-use Rattle.std.proofs.Common.{◌≡◌, ℕ, ℤ, List, [], ◌∷◌, ◌++◌, inr, refl, sym, ap, ◌∙◌, subst, arith}
+-- A priced world that enters.
+use Rattle.std.proofs.Common.{◌≡◌, ℕ, ℤ, List, [], ◌∷◌, ◌++◌, refl, sym, ap, ◌∙◌, subst, arith}
 use Rattle.std.proofs.lemmas.List.{length-append}
 use Rattle.ps_meaning.specs.Formula.{World}
 use Rattle.ps_table.specs.declared.event.Event.{Event}
 use Rattle.ps_table.specs.declared.event.Event.TheVariants.{Priced}
 use Rattle.ps_table.specs.Worlds.{HasNumber}
 use Rattle.ps_table.specs.declared.costs.Costs.{Costs}
-use Rattle.ps_table.specs.declared.error.TableError.{TableError}
-use Rattle.ps_table.specs.declared.error.TableError.TheVariants as refused
-use Rattle.ps_table.specs.declared.place.WideAt.{WideAt}
 use Rattle.ps_table.specs.Tableau.{Tableau, IsTableau, IsAdded, ExtendsSystem}
-use Rattle.ps_table.specs.Places.{IsWideAt, IsRefusedAt, NewPlaces}
 use Rattle.ps_bland.specs.Ready.{IsReady}
 use Rattle.ps_bland.proofs.Ready.{feasible_added}
-use Rattle.ps_answer.specs.declared.answer.Cause.TheVariants.{Wide}
 use Rattle.ps_claims.specs.declared.claim_kind.ClaimKind.{ClaimKind}
 use Rattle.ps_claims.specs.declared.claim_kind.ClaimKind.TheVariants.{Nothing, Lower, Upper}
 use Rattle.ps_runs.specs.Rows.{phase_of, entries_of, world_cost}
@@ -21,13 +16,10 @@ use Rattle.ps_runs.specs.Subjects.{Subject, setting_of, frame_of, program_of}
 use Rattle.ps_runs.specs.Tables.{costs_for, IsRunTable}
 use Rattle.ps_runs.proofs.Adding.{costs_grow}
 use Rattle.ps_runs.proofs.GoingOn.{begun, priced_goes_on, priced_fresh}
-use Rattle.ps_runs.proofs.Licensing.{column_due}
 use Rattle.ps_runs.proofs.Progress.{moving_after}
 use Rattle.ps_runs.proofs.Ready.{ready_first, ready_lower, ready_upper}
 use Rattle.ps_runs.specs.declared.state.State.{State}
-use Rattle.ps_generation.specs.declared.end.End.{End}
-use Rattle.ps_generation.specs.declared.end.End.TheVariants.{Open}
-use Rattle.ps_generation.specs.Phases.{LimitedSubject, stage_of, IsInPhase, HasCome, IsEnd, IsEndAt}
+use Rattle.ps_generation.specs.Phases.{LimitedSubject, stage_of, IsInPhase, HasCome}
 use Rattle.ps_generation.specs.Rounds.{IsPricedIn, HasEntered}
 
 same_state : (t : Tableau) (pool more : List World) (trace longer : List Event) (left : ℕ) → more ≡ pool → longer ≡ trace
@@ -46,29 +38,7 @@ module _ (kind : ClaimKind) (r : LimitedSubject) (costs : Costs) (old : State) (
   pub not_there : (at : ℕ) → HasNumber old.pool w at → ⊥
   not_there at there = priced_fresh kind r.subject r.limits.conflicts old.pool old.table w at phase.table is there
 
-  -- a world whose column is refused is pending
-  abbrev told : State
-  told = record { table = old.table; pool = old.pool; trace = old.trace ++ Priced w ∷ []; left = old.left }
-
-  pending_told : (at : WideAt) → IsWideAt (NewPlaces old.table (entries_of (setting_of r.subject) w)) at → IsEnd kind r old told (Open (Wide at))
-  pending_told at wide = inr (record {
-    trace = old.trace;
-    world = w;
-    appended = refl;
-    way = begun (program_of kind r.subject) r.limits.conflicts old.pool old.table old.trace old.left phase.table phase.pool_kept;
-    priced = is;
-    wide = column_due r.subject old.pool old.table phase.table w at wide;
-  })
-
-  pub pending_wide : (u : Tableau) (longer : List Event) (entries : List ℤ) (e : TableError) (end : End) → u ≡ old.table → longer ≡ old.trace ++ Priced w ∷ []
-      → entries ≡ entries_of (setting_of r.subject) w → IsRefusedAt (NewPlaces old.table entries) e → IsEndAt e end
-      → IsEnd kind r old (record { table = u; pool = old.pool; trace = longer; left = old.left }) end
-  pending_wide u longer entries (refused.Wide at) end same more g wide is =
-      subst (λ (x : State). IsEnd kind r old x end) (λ i. record { table = sym same i; pool = old.pool; trace = sym more i; left = old.left })
-      (subst (λ (x : End). IsEnd kind r old told x) (sym is) (pending_told at (subst (λ (es : List ℤ). IsWideAt (NewPlaces old.table es) at) g wide)))
-  pending_wide u longer entries refused.NoMemory end same more g wide is = absurd is
-
-  -- a world that gets its column
+  -- with its column
   module _ (u : Tableau) (added : IsAdded (entries_of (setting_of r.subject) w) old.table u) (stands : ExtendsSystem (entries_of (setting_of r.subject) w) old.table u) (tableau : IsTableau u) where
     abbrev grown : State
     grown = record { table = u; pool = old.pool ++ w ∷ []; trace = old.trace ++ Priced w ∷ []; left = old.left }

@@ -1,14 +1,13 @@
 -- What phase one answers is lawful and valid.
-use Rattle.std.proofs.Common.{◌≡◌, ◌+◌, ◌≤◌, None, List, [], ◌∷◌, ◌++◌, length, refl, sym, ap, subst, arith, inl, inr, false}
+use Rattle.std.proofs.Common.{◌≡◌, ◌+◌, ◌≤◌, List, [], length, refl, sym, ap, subst, arith, false}
 use Rattle.ps_table.specs.declared.event.Event.{Event}
-use Rattle.ps_table.specs.declared.event.Event.TheVariants.{Priced}
 use Rattle.ps_table.specs.Tableau.{entry_at}
 use Rattle.ps_table.specs.declared.place.WideAt.{WideAt}
 use Rattle.ps_table.specs.Places.{IsWideAt}
 use Rattle.ps_bland.specs.Rules.{IsDueToEndIn}
 use Rattle.ps_generation.specs.Multiples.{ModelPlaces}
 use Rattle.ps_answer.specs.declared.answer.Cause.{Cause}
-use Rattle.ps_answer.specs.declared.answer.Cause.TheVariants.{Pivots, Conflicts, Wide}
+use Rattle.ps_answer.specs.declared.answer.Cause.TheVariants.{Wide}
 use Rattle.ps_answer.specs.declared.answer.Dual.{Dual}
 use Rattle.ps_answer.specs.declared.answer.Model.{Model}
 use Rattle.ps_claims.specs.declared.claim_kind.ClaimKind.TheVariants.{Nothing}
@@ -23,16 +22,16 @@ use Rattle.ps_runs.specs.Tables.{IsUnderWay}
 use Rattle.ps_runs.specs.Verdicts.{IsVerdictAt}
 use Rattle.ps_runs.proofs.Shapes.{run_table}
 use Rattle.ps_runs.proofs.Licensing.{feasible_there}
-use Rattle.ps_runs.proofs.Ending.{ended, ended_pending}
+use Rattle.ps_runs.proofs.Ending.{ended}
 use Rattle.ps_generation.specs.Models.{IsTableModel}
 use Rattle.ps_runs.specs.declared.state.State.{State}
-use Rattle.ps_generation.specs.Phases.{LimitedSubject, IsSpread, stage_of, HasCome, IsDualEnd, IsOpenEnd, IsPendingEnd, IsOpen, IsLeft}
+use Rattle.ps_generation.specs.Phases.{LimitedSubject, IsSpread, stage_of, HasCome, IsDualEnd, IsOpenEnd, IsLeft}
 use Rattle.ps_generation.specs.declared.first.First.{First}
 use Rattle.ps_generation.specs.declared.first.First.TheVariants as first
 use Rattle.ps_generation.specs.Runs.{IsAtStart, IsPhaseOneAnswer, IsValidFirst, IsWholeFirst, GoesOn, HasReached, verdict_of, kept_first}
 use Rattle.ps_generation.specs.States.{run_of}
 use Rattle.ps_generation.proofs.Models as models
-use Rattle.ps_generation.proofs.Ways.{own_way, one_more}
+use Rattle.ps_generation.proofs.Ways.{own_way}
 
 module _ (r : LimitedSubject) (old new : State) (start : IsAtStart (run_of r old false)) where
   -- the way with as many pivots left at first as the limit says
@@ -42,7 +41,7 @@ module _ (r : LimitedSubject) (old new : State) (start : IsAtStart (run_of r old
       subst (λ had. IsUnderWay (program_of Nothing r.subject) r.limits.conflicts (stage_of old) had [] (record new { trace = way.events })) start.left
       (own_way Nothing r.subject r.limits.conflicts (stage_of old) old.left old.trace new.pool new.table trace new.left way)
 
-  answered : (come : HasCome Nothing r old new) (answer : First) → IsVerdictAt (program_of Nothing r.subject) r.limits (stage_of new) new.left None (verdict_of (kept_first r.flags answer))
+  answered : (come : HasCome Nothing r old new) (answer : First) → IsVerdictAt (program_of Nothing r.subject) r.limits (stage_of new) new.left (verdict_of (kept_first r.flags answer))
       → IsValidFirst r.subject (kept_first r.flags answer) → IsWholeFirst r answer → GoesOn (run_of r old false) (run_of r new false) come.way.events answer
       → IsPhaseOneAnswer (run_of r old false) (run_of r new false) answer
   answered come answer due valid whole on = record {
@@ -78,7 +77,7 @@ module _ (r : LimitedSubject) (old new : State) (start : IsAtStart (run_of r old
 
     pub first_reached : (m : Model) → IsTableModel new.table new.pool m → IsPhaseOneAnswer (run_of r old false) (run_of r new false) (first.Reached m)
     first_reached m is =
-        answered come (first.Reached m) (refl, models.model_at r.subject new.pool new.table left.table m feasible is)
+        answered come (first.Reached m) (models.model_at r.subject new.pool new.table left.table m feasible is)
         (models.consistent r.subject new.pool new.table left.table m left.pool_kept feasible is, models.allowed r.subject new.pool new.table left.table m left.pool_kept feasible is) tt reached
 
     pub first_wide : (at : WideAt) → IsWideAt (ModelPlaces new.table) at → IsPhaseOneAnswer (run_of r old false) (run_of r new false) (first.Open (Wide at))
@@ -91,7 +90,7 @@ module _ (r : LimitedSubject) (old new : State) (start : IsAtStart (run_of r old
       let shown : ShowsNothing r.subject.parts (given_in r.subject.query) (dual_of e) =
       nothing_at_rest r.subject (stage_of new) (entry_at new.table) (dual_of e) end.numbers (run_table (setting_of r.subject) new.pool new.table left.table) end.rests.resting end.steps in
       let due : IsDualAt (program_of Nothing r.subject) (stage_of new) (dual_of e) = record { table = entry_at new.table; rests = end.rests; none = end.none; numbers = end.numbers } in
-      answered h.0 (first.Nothing d) (refl, subst (λ (x : Dual). IsDualAt (program_of Nothing r.subject) (stage_of new) (dual_of x)) (sym spread.numbers) due)
+      answered h.0 (first.Nothing d) (subst (λ (x : Dual). IsDualAt (program_of Nothing r.subject) (stage_of new) (dual_of x)) (sym spread.numbers) due)
       (subst (λ (x : Dual). ShowsNothing r.subject.parts (given_in r.subject.query) (dual_of x)) (sym spread.numbers) shown)
       (record {
         others = spread.others;
@@ -100,25 +99,5 @@ module _ (r : LimitedSubject) (old new : State) (start : IsAtStart (run_of r old
       })
       tt
 
-  open_end : (cause : Cause) → IsOpenEnd Nothing r old new cause → IsPhaseOneAnswer (run_of r old false) (run_of r new false) (first.Open cause)
-  open_end cause end = answered end.come (first.Open cause) end.licensed tt tt tt
-
-  pending_end : (at : WideAt) → IsPendingEnd Nothing r old new at → IsPhaseOneAnswer (run_of r old false) (run_of r new false) (first.Open (Wide at))
-  pending_end at end = record {
-    events = end.way.events ++ Priced end.world ∷ [];
-    traced = record {
-      over = refl;
-      appended = one_more Nothing r.subject r.limits.conflicts (stage_of old) old.left old.trace new.pool new.table end.trace new.left end.way new.trace (Priced end.world) end.appended;
-    };
-    lawful =
-        ended_pending (program_of Nothing r.subject) r.limits (stage_of old) new.pool new.table end.way.events new.left start.start (from_start end.trace end.way) end.world at end.priced
-        end.wide;
-    valid = tt;
-    whole = tt;
-    goes_on = tt;
-  }
-
-  pub first_open : (cause : Cause) → IsOpen Nothing r old new cause → IsPhaseOneAnswer (run_of r old false) (run_of r new false) (first.Open cause)
-  first_open (Pivots limit) end = open_end (Pivots limit) end
-  first_open (Conflicts limit goal steps) end = open_end (Conflicts limit goal steps) end
-  first_open (Wide at) end = elim end [ inl e ↦ open_end (Wide at) e | inr e ↦ pending_end at e ]
+  pub first_open : (cause : Cause) → IsOpenEnd Nothing r old new cause → IsPhaseOneAnswer (run_of r old false) (run_of r new false) (first.Open cause)
+  first_open cause end = answered end.come (first.Open cause) end.licensed tt tt tt

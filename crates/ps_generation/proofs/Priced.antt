@@ -50,7 +50,7 @@ module _ (kind : ClaimKind) (r : LimitedSubject) (costs : Costs) (old : State) (
   pub dual_wide : (e : TableError) (end : End) → IsRefusedAt (DualPlaces old.table costs) e → IsEndAt e end → IsEnd kind r old old end
   dual_wide (refused.Wide at) end wide is =
       subst (λ (x : End). IsEnd kind r old old x) (sym is)
-      (inl (record { come = come_none kind r costs old phase; licensed = refused_at (operation_of at) wide.at wide.wide }))
+      (record { come = come_none kind r costs old phase; licensed = refused_at (operation_of at) wide.at wide.wide })
   dual_wide refused.NoMemory end wide is = absurd is
 
   module _ (d : Dual) (same : IsDualOver kind r.subject old.table costs d)

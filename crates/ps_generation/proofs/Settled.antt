@@ -1,5 +1,5 @@
 -- The pivots of `settle`, as what a phase does, and its ends.
-use Rattle.std.proofs.Common.{◌≡◌, ℕ, ◌+◌, ◌<◌, ◌≤◌, List, [], ◌∷◌, length, inl, sym, ap, ◌∙◌, subst, arith}
+use Rattle.std.proofs.Common.{◌≡◌, ℕ, ◌+◌, ◌<◌, ◌≤◌, List, [], ◌∷◌, length, sym, ap, ◌∙◌, subst, arith}
 use Rattle.std.proofs.lemmas.List.{length-append}
 use Rattle.ps_simplex.specs.Rule.{SimplexTable, IsMoving, IsResting}
 use Rattle.ps_meaning.specs.Formula.{World}
@@ -101,10 +101,10 @@ module _ (kind : ClaimKind) (r : LimitedSubject) (costs : Costs) (old new : Stat
   pub settled_wide : (e : TableError) (end : End) → IsDueRefusal (phase_of kind) costs new.table new.left e → IsEndAt e end → IsEnd kind r old new end
   settled_wide (refused.Wide at) end due is =
       subst (λ (x : End). IsEnd kind r old new x) (sym is)
-      (inl (record {
+      (record {
         come = settled_come;
         licensed =
             settling_due r.subject new.pool new.table settled_come.way.table kind new.left at
             (subst (λ (c : Costs). IsDueWide (phase_of kind) c new.table new.left at) costs_there due);
-      }))
+      })
   settled_wide refused.NoMemory end due is = absurd is

@@ -1,11 +1,9 @@
 -- What a side answers is lawful and valid.
-use Rattle.std.proofs.Common.{◌≡◌, ◌≢◌, ℕ, ℤ, pos, ◌≤ℤ◌, Some, None, List, [], ◌∷◌, ◌++◌, length, refl, sym, ap, ◌∙◌, subst, arith, inl, inr, false}
+use Rattle.std.proofs.Common.{◌≡◌, ◌≢◌, ℕ, ℤ, pos, ◌≤ℤ◌, Some, List, length, refl, sym, ap, ◌∙◌, subst, arith, false}
 use Rattle.std.proofs.lemmas.Int.{ints}
 use Rattle.std.proofs.lemmas.List.{length-map}
-use Rattle.ps_table.specs.declared.event.Event.TheVariants.{Priced}
 use Rattle.ps_meaning.specs.Rational.{Rational}
 use Rattle.ps_table.specs.Tableau.{entry_at}
-use Rattle.ps_table.specs.declared.place.WideAt.{WideAt}
 use Rattle.ps_problem.specs.declared.query.Query as stored
 use Rattle.ps_problem.specs.Problems.{Parts, bounds_in, bound_of}
 use Rattle.ps_simplex.specs.Rule.{IsFeasible, IsResting}
@@ -32,14 +30,14 @@ use Rattle.ps_claims.specs.Certificates.{dual_of}
 use Rattle.ps_runs.specs.Licences.{IsModelDue}
 use Rattle.ps_runs.specs.Verdicts.{IsSideAt}
 use Rattle.ps_runs.proofs.Shapes.{run_table}
-use Rattle.ps_runs.proofs.Ending.{side_ended, side_pending}
+use Rattle.ps_runs.proofs.Ending.{side_ended}
 use Rattle.ps_generation.specs.Models.{IsTableModel}
 use Rattle.ps_runs.specs.declared.state.State.{State}
-use Rattle.ps_generation.specs.Phases.{LimitedSubject, IsSpread, stage_of, HasCome, IsDualEnd, IsOpenEnd, IsPendingEnd, IsOpen, IsLeft}
+use Rattle.ps_generation.specs.Phases.{LimitedSubject, IsSpread, stage_of, HasCome, IsDualEnd, IsOpenEnd, IsLeft}
 use Rattle.ps_generation.specs.Runs.{IsSideAnswerOf, IsValidSide, IsWholeSide, kept_side}
 use Rattle.ps_generation.specs.States.{run_of, IsBoundOf}
 use Rattle.ps_generation.proofs.Models as models
-use Rattle.ps_generation.proofs.Ways.{own_way, one_more}
+use Rattle.ps_generation.proofs.Ways.{own_way}
 
 -- at rest with no world above 0 a side's model is due
 due_at_rest : (kind : ClaimKind) (s : Subject) (g : Stage) (X : ℕ → ℕ → Rational) → kind ≢ Nothing → IsRestingAt (program_of kind s) g X → AreAtMost (program_of kind s) g X (pos 0) → IsModelDue (program_of kind s) g X
@@ -75,7 +73,7 @@ tight_so : (kind : ClaimKind) (p : Parts) (q : stored.Query) (g : Stage) (X : �
 tight_so kind p q g X value d apart h = tight_at_end kind p q g X value d apart h.numbers h.head h.table h.feasible h.pooled h.resting h.steps
 
 module _ (kind : ClaimKind) (r : LimitedSubject) (old new : State) (apart : kind ≢ Nothing) where
-  answered : (come : HasCome kind r old new) (answer : SideAnswer) → IsSideAt (program_of kind r.subject) r.limits (stage_of new) new.left None (kept_side r.flags answer)
+  answered : (come : HasCome kind r old new) (answer : SideAnswer) → IsSideAt (program_of kind r.subject) r.limits (stage_of new) new.left (kept_side r.flags answer)
       → ((q : stored.Query) → r.subject.query ≡ Some q → IsValidSide kind r.subject.parts q (kept_side r.flags answer)) → IsWholeSide kind r answer
       → IsSideAnswerOf kind (run_of r old false) (run_of r new false) answer
   answered come answer due valid whole = record {
@@ -112,9 +110,8 @@ module _ (kind : ClaimKind) (r : LimitedSubject) (old new : State) (apart : kind
     -- the value with its dual spread over all bounds
     module _ (f : Dual) (spread : IsSpread r d f) where
       due : (value : Rational) (m : Model) → IsTableModel new.table new.pool m → HasValueHead value (dual_of d)
-          → IsSideAt (program_of kind r.subject) r.limits (stage_of new) new.left None (side.Bound value m d)
+          → IsSideAt (program_of kind r.subject) r.limits (stage_of new) new.left (side.Bound value m d)
       due value m is head = (
-        refl,
         models.model_at r.subject new.pool new.table left.table m (models.feasible_at r.subject new.pool new.table left.table (left.feasible apart)) is,
         record { table = entry_at new.table; rests = end.rests; none = end.none; numbers = end.numbers },
         head,
@@ -126,7 +123,7 @@ module _ (kind : ClaimKind) (r : LimitedSubject) (old new : State) (apart : kind
       bound : (value : Rational) (m : Model) → IsTableModel new.table new.pool m → HasValueHead value (dual_of d) → IsSideAnswerOf kind (run_of r old false) (run_of r new false) (side.Bound value m f)
       bound value m is head =
           answered come (side.Bound value m f)
-          (subst (λ (x : Dual). IsSideAt (program_of kind r.subject) r.limits (stage_of new) new.left None (side.Bound value m x)) (sym spread.numbers) (due value m is head))
+          (subst (λ (x : Dual). IsSideAt (program_of kind r.subject) r.limits (stage_of new) new.left (side.Bound value m x)) (sym spread.numbers) (due value m is head))
           (λ q e. subst (λ (x : Dual). IsValidSide kind r.subject.parts q (side.Bound value m x)) (sym spread.numbers)
           (subst (λ n. ShowsTight r.subject.parts kind q value n (dual_of d)) (sym (models.is_table_model r.subject new.pool new.table left.table m is)) (tight value head q e)))
           (record { others = spread.others; refuted = spread.refuted kind refuted })
@@ -143,27 +140,8 @@ module _ (kind : ClaimKind) (r : LimitedSubject) (old new : State) (apart : kind
       side_bound (side.Open (Pivots limit)) none = absurd none
       side_bound (side.Open (Conflicts limit goal steps)) none = absurd none
 
-  open_end : (cause : Cause) → IsOpenEnd kind r old new cause → IsSideAnswerOf kind (run_of r old false) (run_of r new false) (side.Open cause)
-  open_end cause end = answered end.come (side.Open cause) end.licensed (λ q e. tt) tt
-
-  pending_end : (at : WideAt) → IsPendingEnd kind r old new at → IsSideAnswerOf kind (run_of r old false) (run_of r new false) (side.Open (Wide at))
-  pending_end at end = record {
-    events = end.way.events ++ Priced end.world ∷ [];
-    traced = record {
-      over = refl;
-      appended = one_more kind r.subject r.limits.conflicts (stage_of old) old.left old.trace new.pool new.table end.trace new.left end.way new.trace (Priced end.world) end.appended;
-    };
-    lawful =
-        side_pending (program_of kind r.subject) r.limits (stage_of old) old.left new.pool new.table end.way.events new.left
-        (own_way kind r.subject r.limits.conflicts (stage_of old) old.left old.trace new.pool new.table end.trace new.left end.way) end.world at end.priced end.wide;
-    valid = λ q e. tt;
-    whole = tt;
-  }
-
-  pub side_open : (cause : Cause) → IsOpen kind r old new cause → IsSideAnswerOf kind (run_of r old false) (run_of r new false) (side.Open cause)
-  side_open (Pivots limit) end = open_end (Pivots limit) end
-  side_open (Conflicts limit goal steps) end = open_end (Conflicts limit goal steps) end
-  side_open (Wide at) end = elim end [ inl e ↦ open_end (Wide at) e | inr e ↦ pending_end at e ]
+  pub side_open : (cause : Cause) → IsOpenEnd kind r old new cause → IsSideAnswerOf kind (run_of r old false) (run_of r new false) (side.Open cause)
+  side_open cause end = answered end.come (side.Open cause) end.licensed (λ q e. tt) tt
 
 -- a dual has a multiplier for each bound of the kept sentences
 pub as_many_rows : (kind : ClaimKind) (s : Subject) (g : Stage) (X : ℕ → ℕ → Rational) (d : Dual) → IsDualEnd (program_of kind s) g X d → length d.rows ≡ length (bounds_in s.parts.sentences)

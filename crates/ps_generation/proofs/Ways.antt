@@ -1,5 +1,5 @@
 -- The events of a phase, which stand behind those that were not yet taken.
-use Rattle.std.proofs.Common.{◌≡◌, ℕ, List, [], ◌∷◌, ◌++◌, refl, append_assoc, ap, ◌∙◌}
+use Rattle.std.proofs.Common.{ℕ, List, [], refl}
 use Rattle.ps_meaning.specs.Formula.{World}
 use Rattle.ps_table.specs.declared.event.Event.{Event}
 use Rattle.ps_table.specs.Tableau.{Tableau}
@@ -20,7 +20,3 @@ module _ (kind : ClaimKind) (s : Subject) (conflicts : ℕ) (from : Stage) (had 
     leads = way.leads;
     counted = way.counted;
   }
-
-  -- with one event more
-  pub one_more : (longer : List Event) (e : Event) → longer ≡ trace ++ e ∷ [] → longer ≡ before ++ (way.events ++ e ∷ [])
-  one_more longer e is = is ∙ ap (λ es. es ++ e ∷ []) way.appended ∙ append_assoc before way.events (e ∷ [])

@@ -1,21 +1,17 @@
 -- How a phase of a run goes to its end, from one state of the solver to another.
-use Rattle.std.specs.Prelude.{◌≡◌, ◌≢◌, ◌+◌, ◌≤◌, ◌++◌, ◌⊎◌, ℕ, pos, Bool, Option, Some, None, List, [], ◌∷◌, length}
+use Rattle.std.specs.Prelude.{◌≡◌, ◌≢◌, ◌+◌, ◌≤◌, ℕ, pos, Bool, Option, Some, List, [], length}
 use Rattle.ps_problem.specs.declared.query.Query.{Query}
 use Rattle.ps_problem.specs.Problems.{Parts}
 use Rattle.ps_claims.specs.Duals.{AreZeroElsewhere}
 use Rattle.ps_claims.specs.Validity.{IsRefuted}
 use Rattle.ps_runs.specs.Kept.{kept_of, flags_of, kept_parts}
-use Rattle.ps_meaning.specs.Formula.{World}
 use Rattle.ps_meaning.specs.Rational.{Rational}
 use Rattle.ps_simplex.specs.Rule.{IsFeasible}
 use Rattle.ps_answer.specs.declared.limits.TheConstants.{MOST_PIVOTS}
 use Rattle.ps_log.specs.declared.limits.TheConstants.{MOST_CONFLICTS}
-use Rattle.ps_table.specs.declared.event.Event.{Event}
-use Rattle.ps_table.specs.declared.event.Event.TheVariants.{Priced}
 use Rattle.ps_table.specs.declared.costs.Costs.{Costs}
 use Rattle.ps_table.specs.declared.error.TableError.{TableError}
 use Rattle.ps_table.specs.declared.error.TableError.TheVariants as refused
-use Rattle.ps_table.specs.declared.place.WideAt.{WideAt}
 use Rattle.ps_table.specs.Tableau.{entry_at}
 use Rattle.ps_bland.specs.Rules.{simplex_of, IsDueToEndIn}
 use Rattle.ps_bland.specs.Ready.{IsReady}
@@ -27,11 +23,11 @@ use Rattle.ps_claims.specs.declared.claim_kind.ClaimKind.TheVariants.{Nothing}
 use Rattle.ps_runs.specs.Certificates.{HaveSameNumbers}
 use Rattle.ps_runs.specs.Programs.{Program, RefutesGain}
 use Rattle.ps_runs.specs.Subjects.{Subject, setting_of, given_in, both_in, atoms_of, frame_of, program_of}
-use Rattle.ps_runs.specs.Runs.{Stage, IsStart, IsPool, dual_at, AreAtMost, IsRestingAt, IsPricedBy}
+use Rattle.ps_runs.specs.Runs.{Stage, IsStart, IsPool, dual_at, AreAtMost, IsRestingAt}
 use Rattle.ps_claims.specs.Certificates.{dual_of}
 use Rattle.ps_runs.specs.Rows.{phase_of}
 use Rattle.ps_runs.specs.Tables.{costs_for, IsRunTable, stage_at, IsUnderWay}
-use Rattle.ps_runs.specs.Licences.{IsLicensed, IsColumnTooWide}
+use Rattle.ps_runs.specs.Licences.{IsLicensed}
 use Rattle.ps_claims.specs.Printed.{IsPrintedDual, IsPrintedCause}
 use Rattle.ps_runs.specs.declared.limits.Limits.{Limits}
 use Rattle.ps_runs.specs.declared.state.State.{State}
@@ -127,32 +123,17 @@ pub record IsDualEnd (p : Program) (g : Stage) (X : ℕ → ℕ → Rational) (d
   pub numbers : HaveSameNumbers (dual_of d) (dual_at p g X)
   pub steps : RefutesGain p (dual_at p g X) d.steps
 
--- a world was priced, and its column is too wide: its event is there, and it is pending
-pub record IsPendingEnd (kind : ClaimKind) (r : LimitedSubject) (old new : State) (at : WideAt) : Type 0 where
-  pub trace : List Event
-  pub world : World
-  pub appended : new.trace ≡ trace ++ Priced world ∷ []
-  pub way : IsUnderWay (program_of kind r.subject) r.limits.conflicts (stage_of old) old.left old.trace
-      (record new { trace = trace })
-  pub priced : IsPricedBy (program_of kind r.subject) r.limits.conflicts (stage_of new) (entry_at new.table) world
-  pub wide : IsColumnTooWide (frame_of r.subject) (stage_of new) world at
-
 -- the phase is open where it has come to, by a licence
 pub record IsOpenEnd (kind : ClaimKind) (r : LimitedSubject) (old new : State) (cause : Cause) : Type 0 where
   pub come : HasCome kind r old new
-  pub licensed : IsLicensed (program_of kind r.subject) r.limits (stage_of new) new.left None cause
-
--- why the phase is open: where it has come to, or with a pending world
-abbrev pub IsOpen : ClaimKind → LimitedSubject → State → State → Cause → Type 0
-IsOpen kind r old new (Wide at) = IsOpenEnd kind r old new (Wide at) ⊎ IsPendingEnd kind r old new at
-IsOpen kind r old new cause = IsOpenEnd kind r old new cause
+  pub licensed : IsLicensed (program_of kind r.subject) r.limits (stage_of new) new.left cause
 
 -- how a phase ends
 abbrev pub IsEnd : ClaimKind → LimitedSubject → State → State → End → Type 0
 IsEnd kind r old new Feasible = HasCome kind r old new × IsDueToEndIn (phase_of kind) new.table
 IsEnd kind r old new (NoneAbove d) = HasCome kind r old new
     × IsDualEnd (program_of kind r.subject) (stage_of new) (entry_at new.table) d
-IsEnd kind r old new (Open cause) = IsOpen kind r old new cause
+IsEnd kind r old new (Open cause) = IsOpenEnd kind r old new cause
 
 -- the end at a refusal: the phase is open for the number that is too wide; want of memory is no end
 abbrev pub IsEndAt : TableError → End → Type 0

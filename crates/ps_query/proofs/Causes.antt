@@ -1,10 +1,9 @@
 -- The lines of an open part, where it is licensed and can be printed.
-use Rattle.std.proofs.Common.{ℕ, ◌+◌, ◌≤◌, ℤ, pos, ◌≤ℤ◌, Option, Some, None, List, [], ◌∷◌, length, map, All, subst, arith}
+use Rattle.std.proofs.Common.{ℕ, ◌+◌, ◌≤◌, ℤ, pos, ◌≤ℤ◌, Option, List, [], ◌∷◌, length, map, All, subst, arith}
 use Rattle.std.specs.List.{AllByRecursion}
 use Rattle.std.proofs.lemmas.Int.{ints}
 use Rattle.std.proofs.lemmas.List.{length-map}
 use Rattle.std.proofs.lemmas.List.Elements.{All-nil, All-cons, All-head, All-tail}
-use Rattle.ps_meaning.specs.Formula.{World}
 use Rattle.ps_meaning.specs.Rational.{Rational}
 use Rattle.ps_pb.specs.Constraints.{Constraint}
 use Rattle.ps_pb.specs.Steps.{Step, AreLawful}
@@ -27,7 +26,7 @@ use Rattle.ps_answer.specs.Items.{IsReducedWithin, IsRatioWithin}
 use Rattle.ps_answer.specs.Answers.{ratio_of, cause_items}
 use Rattle.ps_claims.specs.declared.claim_kind.ClaimKind.{ClaimKind}
 use Rattle.ps_runs.specs.declared.limits.Limits.{Limits}
-use Rattle.ps_runs.specs.Rows.{rows_of, entries_of}
+use Rattle.ps_runs.specs.Rows.{rows_of}
 use Rattle.ps_runs.specs.Subjects.{Subject, setting_of, given_in, both_in, IsAsked, program_of}
 use Rattle.ps_runs.specs.Runs.{Stage, dual_at}
 use Rattle.ps_runs.specs.Licences.{IsOutOfConflicts, IsLicensed}
@@ -36,7 +35,7 @@ use Rattle.ps_query.proofs.All.{each}
 use Rattle.ps_runs.proofs.Asked.{given_there, both_there}
 use Rattle.ps_query.proofs.Models.{IsFit}
 use Rattle.ps_query.proofs.Duals.{fit_steps}
-use Rattle.ps_query.proofs.Places.{IsPlaceUnder, place_more, due_under, new_under}
+use Rattle.ps_query.proofs.Places.{IsPlaceUnder, place_more, due_under}
 
 -- a problem, and limits of pivots and conflicts
 pub record AreLimits (p : Parts) (limits : Limits) : Type 0 where
@@ -97,16 +96,12 @@ module _ (p : Parts) (q : Option stored.Query) (limits : Limits) (within : AreLi
   wide_fit at worlds if_open few under printed =
       (lines.wide if_open at (place_more (rows_of (setting_of s)) MOST_ROWS worlds (limits.pivots + 2) at.place (few_rows p q within.parts) few under) printed, tt)
 
-  pub cause_fit : (kind : ClaimKind) → IsAsked kind p q → (g : Stage) (left : ℕ) (pending : Option World) (cause : Cause) → IsLicensed (program_of kind s) limits g left pending cause
+  pub cause_fit : (kind : ClaimKind) → IsAsked kind p q → (g : Stage) (left : ℕ) (cause : Cause) → IsLicensed (program_of kind s) limits g left cause
       → IsPrintedCause cause → length g.pool ≤ limits.pivots + 2 → Open → AllByRecursion Q (cause_items cause)
-  cause_fit kind asked g left None (Pivots limit) h printed few if_open =
+  cause_fit kind asked g left (Pivots limit) h printed few if_open =
       let most = within.few_pivots in
       let same = h.limit_is in
       (lines.fit (line.OpenPivots limit) (tt, omega (arith, most, same)), tt)
-  cause_fit kind asked g left None (Conflicts limit goal steps) h printed few if_open = conflicts_fit kind asked g limit goal steps h printed
-  cause_fit kind asked g left None (Wide at) h printed few if_open =
+  cause_fit kind asked g left (Conflicts limit goal steps) h printed few if_open = conflicts_fit kind asked g limit goal steps h printed
+  cause_fit kind asked g left (Wide at) h printed few if_open =
       wide_fit at (length g.pool) if_open few (due_under kind s g left h.table (operation_of at) h.wide.at) printed
-  cause_fit kind asked g left (Some w) (Pivots limit) h printed few if_open = absurd h
-  cause_fit kind asked g left (Some w) (Conflicts limit goal steps) h printed few if_open = absurd h
-  cause_fit kind asked g left (Some w) (Wide at) h printed few if_open =
-      wide_fit at (length g.pool) if_open few (new_under (rows_of (setting_of s)) (length g.pool) h.table (entries_of (setting_of s) w) (operation_of at) h.wide.at) printed

@@ -1,7 +1,6 @@
 -- Where a settled answer is open for conflicts, it holds as many steps as their limit.
-use Rattle.std.proofs.Common.{◌⊎◌, ℕ, Option, Some, None, List, [], ◌∷◌, inl, inr, sym, subst}
+use Rattle.std.proofs.Common.{◌⊎◌, ℕ, List, [], ◌∷◌, inl, inr, sym, subst}
 use Rattle.std.specs.List.{AllZip}
-use Rattle.ps_meaning.specs.Formula.{World}
 use Rattle.ps_problem.specs.declared.query.Query.{Query}
 use Rattle.ps_problem.specs.Problems.{Parts}
 use Rattle.ps_table.specs.declared.event.Event.{Event}
@@ -26,13 +25,10 @@ use Rattle.ps_runs.specs.Licences.{IsLicensed}
 use Rattle.ps_runs.specs.Verdicts.{IsSideAt, IsLawfulPhaseOne, IsLawfulAnswerTo, asked_after}
 use Rattle.ps_query.specs.Settled.{IsClosed, IsCertifiedVerdict, IsCertifiedAnswer, IsLeftBy, IsBesideRun, IsOfRun, IsSettledVerdict, IsSettledPart, IsSettledAnswer}
 
-licensed : (kind : ClaimKind) (s : Subject) (limits : Limits) (g : Stage) (left : ℕ) (world : Option World) (cause : Cause) → IsLicensed (program_of kind s) limits g left world cause → IsCounted cause
-licensed kind s limits g left None (Pivots limit) h = tt
-licensed kind s limits g left None (Conflicts limit goal steps) h = h.spent.count
-licensed kind s limits g left None (Wide at) h = tt
-licensed kind s limits g left (Some w) (Pivots limit) h = tt
-licensed kind s limits g left (Some w) (Conflicts limit goal steps) h = absurd h
-licensed kind s limits g left (Some w) (Wide at) h = tt
+licensed : (kind : ClaimKind) (s : Subject) (limits : Limits) (g : Stage) (left : ℕ) (cause : Cause) → IsLicensed (program_of kind s) limits g left cause → IsCounted cause
+licensed kind s limits g left (Pivots limit) h = tt
+licensed kind s limits g left (Conflicts limit goal steps) h = h.spent.count
+licensed kind s limits g left (Wide at) h = tt
 
 -- ---- verdicts
 certified_verdict : (v : Verdict) (events : List Event) → IsCertifiedVerdict v events → IsVerdictCounted v
@@ -43,7 +39,7 @@ certified_verdict (Open cause) events h = absurd h
 run_verdict : (s : Subject) (limits : Limits) (v : Verdict) (events : List Event) → IsLawfulPhaseOne (program_of Nothing s) limits v events → IsVerdictCounted v
 run_verdict s limits (Consistent m) events h = tt
 run_verdict s limits (Inconsistent d) events h = tt
-run_verdict s limits (Open cause) events h = licensed Nothing s limits h.end h.left h.pending cause h.answered
+run_verdict s limits (Open cause) events h = licensed Nothing s limits h.end h.left cause h.answered
 
 verdict_counted : (p : Parts) (limits : Limits) (v : Verdict) (events : List Event) → IsSettledVerdict p limits v events → IsVerdictCounted v
 verdict_counted p limits v events h = elim h [
@@ -56,20 +52,20 @@ closed_counted : (a : SideAnswer) → IsClosed a → IsSideCounted a
 closed_counted (side.Bound value m d) h = tt
 closed_counted (side.Open cause) h = absurd h
 
-run_side : (kind : ClaimKind) (s : Subject) (limits : Limits) (g : Stage) (left : ℕ) (world : Option World) (a : SideAnswer) → IsSideAt (program_of kind s) limits g left world a → IsSideCounted a
-run_side kind s limits g left world (side.Bound value m d) h = tt
-run_side kind s limits g left world (side.Open cause) h = licensed kind s limits g left world cause h
+run_side : (kind : ClaimKind) (s : Subject) (limits : Limits) (g : Stage) (left : ℕ) (a : SideAnswer) → IsSideAt (program_of kind s) limits g left a → IsSideCounted a
+run_side kind s limits g left (side.Bound value m d) h = tt
+run_side kind s limits g left (side.Open cause) h = licensed kind s limits g left cause h
 
 left_counted : (s : Subject) (limits : Limits) (first : List Event) (run : QueryAnswer) → IsLawfulAnswerTo s limits first run → (kind : ClaimKind) (a : SideAnswer) (events : List Event)
     → IsLeftBy run kind a events → IsSideCounted a
 left_counted s limits first (query.Bounds lower lower_trace upper upper_trace) h Nothing a events left = absurd left
 left_counted s limits first (query.Bounds lower lower_trace upper upper_trace) h Lower a events left =
-    subst IsSideCounted (sym left.0) (run_side Lower s limits h.after_lower h.left_lower h.least.pending lower h.least.answered)
+    subst IsSideCounted (sym left.0) (run_side Lower s limits h.after_lower h.left_lower lower h.least.answered)
 left_counted s limits first (query.Bounds lower lower_trace upper upper_trace) h Upper a events left =
-    subst IsSideCounted (sym left.0) (run_side Upper s limits h.end h.left h.greatest.pending upper h.greatest.answered)
+    subst IsSideCounted (sym left.0) (run_side Upper s limits h.end h.left upper h.greatest.answered)
 left_counted s limits first (query.Impossible d) h kind a events left = absurd left
 left_counted s limits first (query.Open cause) h kind a events left =
-    subst IsSideCounted (sym left.0) (licensed Nothing s limits h.end h.left h.pending cause h.answered)
+    subst IsSideCounted (sym left.0) (licensed Nothing s limits h.end h.left cause h.answered)
 
 beside_counted : (s : Subject) (limits : Limits) (first : List Event) (run : QueryAnswer) → IsLawfulAnswerTo s limits first run → (kind : ClaimKind) (a : SideAnswer) (events : List Event)
     → IsBesideRun run kind a events → IsSideCounted a
@@ -89,7 +85,7 @@ run_query s limits first (query.Bounds lower lower_trace upper upper_trace) h = 
   beside_counted s limits first h.run h.lawful Upper upper upper_trace h.above,
 )
 run_query s limits first (query.Impossible d) h = tt
-run_query s limits first (query.Open cause) h = licensed Nothing s limits h.end h.left h.pending cause h.answered
+run_query s limits first (query.Open cause) h = licensed Nothing s limits h.end h.left cause h.answered
 
 query_counted : (s : Subject) (limits : Limits) (first : List Event) (a : QueryAnswer) → IsCertifiedAnswer first a ⊎ IsOfRun s limits first a → IsQueryCounted a
 query_counted s limits first a h = elim h [

@@ -1,5 +1,5 @@
 -- How many worlds the events of a phase price: at most one more than they have pivots.
-use Rattle.std.proofs.Common.{◌≡◌, ℕ, suc, ◌+◌, ◌<◌, ◌≤◌, Option, List, [], ◌∷◌, ◌++◌, length, inl, inr, refl, ◌∙◌, subst, arith}
+use Rattle.std.proofs.Common.{◌≡◌, ℕ, suc, ◌+◌, ◌<◌, ◌≤◌, List, [], ◌∷◌, ◌++◌, length, inl, inr, refl, ◌∙◌, subst, arith}
 use Rattle.std.specs.Prelude.{◌⊎◌}
 use Rattle.std.specs.List.{AllByRecursion}
 use Rattle.std.proofs.lemmas.List.{length-append}
@@ -14,7 +14,7 @@ use Rattle.ps_claims.specs.declared.claim_kind.ClaimKind.{ClaimKind}
 use Rattle.ps_claims.specs.declared.claim_kind.ClaimKind.TheVariants.{Nothing}
 use Rattle.ps_runs.specs.Rows.{rows_of}
 use Rattle.ps_runs.specs.Subjects.{Subject, setting_of, atoms_of, frame_of, program_of}
-use Rattle.ps_runs.specs.Runs.{Stage, LeadsTo, still, pivoted, priced, LeadsToPending, entire, pending}
+use Rattle.ps_runs.specs.Runs.{Stage, LeadsTo, still, pivoted, priced}
 use Rattle.ps_runs.specs.Runs.{pivots_in, IsFeasibleAt, IsPricedAt}
 use Rattle.ps_runs.proofs.Composed.{pivots_in-append}
 use Rattle.ps_query.proofs.All.{both, each}
@@ -69,8 +69,8 @@ pub record HasCome (kind : ClaimKind) (s : Subject) (conflicts : ℕ) (a : Stage
   pub balanced : AreBalanced kind s conflicts b (worlds_in events) (pivots_in events)
   pub under : AllByRecursion (IsEventUnder (rows_of (setting_of s)) (length a.pool + pivots_in events) (atoms_of s)) events
 
-most_worlds : (kind : ClaimKind) (s : Subject) (conflicts : ℕ) (g : Stage) (worlds pivots : ℕ) → AreBalanced kind s conflicts g worlds pivots → worlds ≤ pivots + 1
-most_worlds kind s conflicts g worlds pivots h = elim h [
+pub few_priced : (kind : ClaimKind) (s : Subject) (conflicts : ℕ) (g : Stage) (worlds pivots : ℕ) → AreBalanced kind s conflicts g worlds pivots → worlds ≤ pivots + 1
+few_priced kind s conflicts g worlds pivots h = elim h [
   | inl few ↦ omega (arith, few)
   | inr one ↦ one.0
 ]
@@ -81,7 +81,7 @@ module _ (kind : ClaimKind) (s : Subject) (conflicts : ℕ) (a b : Stage) (event
       → HasCome kind s conflicts a (events ++ Pivot enter leave ∷ []) (record { pool = b.pool; basis = basis })
   with_pivot enter leave basis table there row =
       let rows = rows_of (setting_of s) in
-      let few = most_worlds kind s conflicts b (worlds_in events) (pivots_in events) come.balanced in
+      let few = few_priced kind s conflicts b (worlds_in events) (pivots_in events) come.balanced in
       let more : worlds_in (events ++ Pivot enter leave ∷ []) ≡ worlds_in events = worlds_in-append events (Pivot enter leave ∷ []) ∙ omega arith in
       let up : pivots_in (events ++ Pivot enter leave ∷ []) ≡ pivots_in events + 1 = pivots_in-append events (Pivot enter leave ∷ []) in
       let pool = come.pool in
@@ -137,32 +137,13 @@ has_come kind s conflicts a b events h (pivoted c d before enter leave basis lea
 has_come kind s conflicts a b events h (priced c d before world leads is) =
     with_world kind s conflicts c d before (has_come kind s conflicts c d before h leads) world is
 
--- the same of a run with a pending world, which isn't in the pool
-pub record HasComePending (kind : ClaimKind) (s : Subject) (a : Stage) (events : List Event) (b : Stage) : Type 0 where
-  pub table : HasTable (setting_of s) b.pool b.basis
-  pub pool : length b.pool ≤ length a.pool + pivots_in events + 1
-  pub few : worlds_in events ≤ pivots_in events + 1
-  pub under : AllByRecursion (IsEventUnder (rows_of (setting_of s)) (length a.pool + pivots_in events) (atoms_of s)) events
-
-pub has_come_pending : (kind : ClaimKind) (s : Subject) (conflicts : ℕ) (a b : Stage) (events : List Event) (world : Option World) → HasTable (setting_of s) a.pool a.basis
-    → LeadsToPending (program_of kind s) conflicts a events world b → HasComePending kind s a events b
-has_come_pending kind s conflicts a b events world h (entire c d es leads) =
-    let come = has_come kind s conflicts c d es h leads in
-    let few = most_worlds kind s conflicts d (worlds_in es) (pivots_in es) come.balanced in
+-- with that the pool grows by at most one world more than pivots
+pub few_more : (kind : ClaimKind) (s : Subject) (conflicts : ℕ) (a b : Stage) (events : List Event) → HasCome kind s conflicts a events b
+    → length b.pool ≤ length a.pool + pivots_in events + 1
+few_more kind s conflicts a b events come =
+    let few = few_priced kind s conflicts b (worlds_in events) (pivots_in events) come.balanced in
     let pool = come.pool in
-    record { table = come.table; pool = omega (arith, pool, few); few = few; under = come.under }
-has_come_pending kind s conflicts a b events world h (pending c d es w leads is) =
-    let come = has_come kind s conflicts c d es h leads in
-    let longer = with_world kind s conflicts c d es come w is in
-    let few = few_before kind s conflicts c d es come w is in
-    let pool = come.pool in
-    let same : pivots_in (es ++ Priced w ∷ []) ≡ pivots_in es = pivots_in-append es (Priced w ∷ []) ∙ omega arith in
-    record {
-      table = come.table;
-      pool = omega (arith, pool, few, same);
-      few = most_worlds kind s conflicts (record { pool = d.pool ++ w ∷ []; basis = d.basis }) (worlds_in (es ++ Priced w ∷ [])) (pivots_in (es ++ Priced w ∷ [])) longer.balanced;
-      under = longer.under;
-    }
+    omega (arith, pool, few)
 
 -- where phase one ends feasible there are at most as many worlds as pivots
 pub ended_few : (s : Subject) (conflicts : ℕ) (a b : Stage) (events : List Event) (X : ℕ → ℕ → Rational) → HasCome Nothing s conflicts a events b → IsFeasibleAt (frame_of s) b X

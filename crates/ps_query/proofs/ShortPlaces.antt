@@ -1,28 +1,23 @@
 -- The line of an open part that names the world 1,000,002, one past the limit, is as long as that of the world before it.
 use Rattle.std.proofs.Common.{◌≡◌, ℕ, ◌+◌, ◌<◌, ◌≤◌, eqb, cond, List, [], ◌∷◌, ◌++◌, length, fold, inl, inr, refl, ap, subst, arith}
-use Rattle.std.specs.Prelude.{codes, decimal}
+use Rattle.std.specs.Prelude.{decimal}
 use Rattle.std.specs.List.{AllZip}
 use Rattle.std.proofs.lemmas.Fmt.{decimal_step}
 use Rattle.std.proofs.lemmas.List.{length-append}
 use Rattle.std.proofs.lemmas.Bool.Decides.{eqb_tells}
 use Rattle.ps_io.specs.LineText.{with_word}
 use Rattle.ps_frac.specs.declared.wide.Op.{Op}
-use Rattle.ps_table.specs.declared.col.Col.{Col}
-use Rattle.ps_table.specs.declared.col.Col.TheVariants as col
 use Rattle.ps_table.specs.declared.place.Place.{Place}
 use Rattle.ps_table.specs.declared.place.Place.TheVariants as place
-use Rattle.ps_table.specs.declared.place.TableCol.{TableCol}
-use Rattle.ps_table.specs.declared.place.TableCol.TheVariants as shown
-use Rattle.ps_table.specs.Tableau.{IsInside, IsShown}
 use Rattle.ps_table.specs.declared.limits.TheConstants.{MOST_ROWS}
 use Rattle.ps_io.specs.declared.limits.TheConstants.{LONGEST_LINE}
 use Rattle.ps_answer.specs.declared.item.Ratio.{Ratio}
 use Rattle.ps_answer.specs.declared.item.LineItem.TheVariants.{OpenWide}
-use Rattle.ps_answer.specs.Words.{Word, Fraction, Column, word_text}
-use Rattle.ps_answer.specs.Items.{op_word, shown_word, place_words, item_words, item_line, IsRatioWithin}
+use Rattle.ps_answer.specs.Words.{Word, Fraction, word_text}
+use Rattle.ps_answer.specs.Items.{count, op_word, place_words, item_words, item_line, IsRatioWithin}
 use Rattle.ps_answer.specs.declared.limits.TheConstants.{MOST_OPERAND, MOST_WORLD}
 use Rattle.ps_valid.proofs.ShortLines.{short_line}
-use Rattle.ps_query.proofs.Places.{IsPlaceUnder, place_within}
+use Rattle.ps_query.proofs.Places.{IsWorldUnder, IsPlaceUnder, place_within}
 
 -- ---- words of the same length
 AreAsLong : List Word → List Word → Type 0
@@ -81,80 +76,62 @@ is_before n = elim (eqb_tells n (MOST_WORLD + 1)) [
   }
 ]
 
-col_before : Col → Col
-col_before (col.Home i) = col.Home i
-col_before (col.World n) = col.World (before n)
-
-shown_before : TableCol → TableCol
-shown_before shown.Right = shown.Right
-shown_before (shown.Of c) = shown.Of (col_before c)
-
 place_before : Place → Place
 place_before (place.Ratio i) = place.Ratio i
-place_before (place.Scale j) = place.Scale (shown_before j)
-place_before (place.Times i j) = place.Times i (shown_before j)
-place_before (place.Minus i j) = place.Minus i (shown_before j)
-place_before (place.Cost j i) = place.Cost (col_before j) i
+place_before (place.Scale j) = place.Scale j
+place_before (place.Times i j) = place.Times i j
+place_before (place.Minus i j) = place.Minus i j
+place_before (place.Cost j i) = place.Cost j i
 place_before (place.Whole i) = place.Whole i
 place_before (place.Scaled i) = place.Scaled i
 place_before (place.Weight i) = place.Weight i
 place_before (place.Weighed i) = place.Weighed i
 place_before (place.Total i) = place.Total i
-place_before (place.NewTimes i m) = place.NewTimes i m
-place_before (place.NewPlus i m) = place.NewPlus i m
+place_before (place.PriceTimes n m) = place.PriceTimes (before n) m
+place_before (place.PricePlus n m) = place.PricePlus (before n) m
+place_before (place.ColumnTimes n i m) = place.ColumnTimes (before n) i m
+place_before (place.ColumnPlus n i m) = place.ColumnPlus (before n) i m
 
-col_under : (rows : ℕ) (c : Col) → IsInside rows (MOST_WORLD + 1) c → IsInside rows MOST_WORLD (col_before c)
-unfolding col_before
-col_under rows (col.Home i) h = h
-col_under rows (col.World n) h = ((is_before n).some h.0, (is_before n).most h.1)
-
-shown_under : (rows : ℕ) (c : TableCol) → IsShown rows (MOST_WORLD + 1) c → IsShown rows MOST_WORLD (shown_before c)
-unfolding shown_before
-shown_under rows shown.Right h = tt
-shown_under rows (shown.Of c) h = col_under rows c h
+world_under : (n : ℕ) → IsWorldUnder (MOST_WORLD + 1) n → IsWorldUnder MOST_WORLD (before n)
+world_under n h = ((is_before n).some h.0, (is_before n).most h.1)
 
 place_under : (rows : ℕ) (at : Place) → IsPlaceUnder rows (MOST_WORLD + 1) at → IsPlaceUnder rows MOST_WORLD (place_before at)
 unfolding place_before
 place_under rows (place.Ratio i) h = h
-place_under rows (place.Scale j) h = shown_under rows j h
-place_under rows (place.Times i j) h = (h.0, shown_under rows j h.1)
-place_under rows (place.Minus i j) h = (h.0, shown_under rows j h.1)
-place_under rows (place.Cost j i) h = (col_under rows j h.0, h.1)
+place_under rows (place.Scale j) h = h
+place_under rows (place.Times i j) h = h
+place_under rows (place.Minus i j) h = h
+place_under rows (place.Cost j i) h = h
 place_under rows (place.Whole i) h = h
 place_under rows (place.Scaled i) h = h
 place_under rows (place.Weight i) h = h
 place_under rows (place.Weighed i) h = h
 place_under rows (place.Total i) h = h
-place_under rows (place.NewTimes i m) h = h
-place_under rows (place.NewPlus i m) h = h
+place_under rows (place.PriceTimes n m) h = (world_under n h.0, h.1)
+place_under rows (place.PricePlus n m) h = (world_under n h.0, h.1)
+place_under rows (place.ColumnTimes n i m) h = (world_under n h.0, h.1, h.2)
+place_under rows (place.ColumnPlus n i m) h = (world_under n h.0, h.1, h.2)
 
 -- ---- their words
-col_long : (c : Col) → length (word_text (Column (col_before c))) ≡ length (word_text (Column c))
-unfolding col_before
-col_long (col.Home i) = refl
-col_long (col.World n) =
-    let e = (is_before n).long in
-    omega (arith, e, length-append (codes "w") (decimal (before n)), length-append (codes "w") (decimal n))
-
-shown_long : (c : TableCol) → length (word_text (shown_word (shown_before c))) ≡ length (word_text (shown_word c))
-unfolding shown_before
-shown_long shown.Right = refl
-shown_long (shown.Of c) = col_long c
+world_long : (n : ℕ) → length (word_text (count (before n))) ≡ length (word_text (count n))
+world_long n = (is_before n).long
 
 place_long : (at : Place) → AreAsLong (place_words (place_before at)) (place_words at)
 unfolding place_before AreAsLong
 place_long (place.Ratio i) = as_long (place_words (place.Ratio i))
-place_long (place.Scale j) = (refl, (shown_long j, tt))
-place_long (place.Times i j) = (refl, (refl, (shown_long j, tt)))
-place_long (place.Minus i j) = (refl, (refl, (shown_long j, tt)))
-place_long (place.Cost j i) = (refl, (col_long j, (refl, tt)))
+place_long (place.Scale j) = as_long (place_words (place.Scale j))
+place_long (place.Times i j) = as_long (place_words (place.Times i j))
+place_long (place.Minus i j) = as_long (place_words (place.Minus i j))
+place_long (place.Cost j i) = as_long (place_words (place.Cost j i))
 place_long (place.Whole i) = as_long (place_words (place.Whole i))
 place_long (place.Scaled i) = as_long (place_words (place.Scaled i))
 place_long (place.Weight i) = as_long (place_words (place.Weight i))
 place_long (place.Weighed i) = as_long (place_words (place.Weighed i))
 place_long (place.Total i) = as_long (place_words (place.Total i))
-place_long (place.NewTimes i m) = as_long (place_words (place.NewTimes i m))
-place_long (place.NewPlus i m) = as_long (place_words (place.NewPlus i m))
+place_long (place.PriceTimes n m) = (refl, (world_long n, (refl, tt)))
+place_long (place.PricePlus n m) = (refl, (world_long n, (refl, tt)))
+place_long (place.ColumnTimes n i m) = (refl, (world_long n, (refl, (refl, tt))))
+place_long (place.ColumnPlus n i m) = (refl, (world_long n, (refl, (refl, tt))))
 
 line_long : (at : Place) (op : Op) (left right : Ratio) → length (item_line (OpenWide (place_before at) op left right)) ≡ length (item_line (OpenWide at op left right))
 unfolding AreAsLong

@@ -3,7 +3,6 @@ use Rattle.std.proofs.Common.{◌≡◌, ◌⊎◌, ℕ, ◌+◌, ◌<◌, ◌�
 use Rattle.std.specs.List.{AllByRecursion}
 use Rattle.std.proofs.lemmas.Int.{ints}
 use Rattle.std.proofs.lemmas.List.{length-map}
-use Rattle.ps_meaning.specs.Formula.{World}
 use Rattle.ps_meaning.specs.Distribution.{IsDistribution}
 use Rattle.ps_problem.specs.declared.query.Query as stored
 use Rattle.ps_problem.specs.Problems.{Parts, HasNodes, bounds_in, bounds_of, bound_of}
@@ -40,7 +39,7 @@ use Rattle.ps_query.proofs.Values.{value_small, value_low}
 use Rattle.ps_query.proofs.Models.{IsFit, fit_model}
 use Rattle.ps_query.proofs.Duals.{fit_dual}
 use Rattle.ps_query.proofs.Stages.{start_table}
-use Rattle.ps_query.proofs.Counting.{HasCome, has_come, HasComePending, has_come_pending, ended_few}
+use Rattle.ps_query.proofs.Counting.{worlds_in, HasCome, has_come, few_priced, few_more, ended_few}
 use Rattle.ps_query.proofs.Causes.{AreLimits, AreLines, operand_proper, cause_fit}
 use Rattle.ps_query.proofs.Traces.{trace_fit, first_pool, first_trace}
 
@@ -78,7 +77,7 @@ module _ (p : Parts) (limits : Limits) (within : AreLimits p limits) (Q : LineIt
   run_verdict (Consistent m) events h valid printed if_open = (lines.fit line.Consistent (tt, tt), model_fit m valid.model.distribution valid.basic printed)
   run_verdict (Inconsistent d) events h valid printed if_open = (lines.fit line.Inconsistent (tt, tt), nothing_fit None d refl valid.refuted valid.head.top printed)
   run_verdict (Open cause) events h valid printed if_open =
-      cause_fit p None limits within Q AnyOpen lines Nothing refl h.end h.left h.pending cause h.answered printed
+      cause_fit p None limits within Q AnyOpen lines Nothing refl h.end h.left cause h.answered printed
       (first_pool p None limits within Q AnyOpen lines (Open cause) events h) (if_open (omega arith))
 
   -- the lines of a verdict, and those of its events
@@ -112,14 +111,14 @@ module _ (p : Parts) (limits : Limits) (within : AreLimits p limits) (Q : LineIt
     closed_fit upper kind (side.Open cause) trace closed valid printed events = absurd closed
 
     -- a side of a run
-    side_fit : (upper : Bool) (kind : ClaimKind) (g : Stage) (left : ℕ) (pending : Option World) (a : SideAnswer) (trace : List Event) → IsSideAt (program_of kind s) limits g left pending a
+    side_fit : (upper : Bool) (kind : ClaimKind) (g : Stage) (left : ℕ) (a : SideAnswer) (trace : List Event) → IsSideAt (program_of kind s) limits g left a
         → IsValidSide p kind q (side_of a) → IsPrintedSide a → length g.pool ≤ limits.pivots + 2 → (0 < open_in_side (side_of a) → AnyOpen) → AllByRecursion Q (trace_items trace)
         → AllByRecursion Q (side_items upper a trace)
-    side_fit upper kind g left pending (side.Bound value m d) trace h valid printed few if_open events = closed_fit upper kind (side.Bound value m d) trace tt valid printed events
-    side_fit upper kind g left pending (side.Open cause) trace h valid printed few if_open events = (
+    side_fit upper kind g left (side.Bound value m d) trace h valid printed few if_open events = closed_fit upper kind (side.Bound value m d) trace tt valid printed events
+    side_fit upper kind g left (side.Open cause) trace h valid printed few if_open events = (
       lines.fit (line.OpenSide upper) (tt, tt),
       both Q (cause_items cause) (trace_items trace)
-          (cause_fit p (Some q) limits within Q AnyOpen lines kind nodes g left pending cause h printed few (if_open (omega arith))) events,
+          (cause_fit p (Some q) limits within Q AnyOpen lines kind nodes g left cause h printed few (if_open (omega arith))) events,
     )
 
     -- both sides
@@ -127,11 +126,11 @@ module _ (p : Parts) (limits : Limits) (within : AreLimits p limits) (Q : LineIt
       first_come : HasCome Nothing s limits.conflicts h.start first h.after_first
       first_come = has_come Nothing s limits.conflicts h.start h.after_first first (start_table s h.start h.starts) h.leads
 
-      lower_come : HasComePending Lower s h.after_first lower_trace h.after_lower
-      lower_come = has_come_pending Lower s limits.conflicts h.after_first h.after_lower lower_trace h.least.pending first_come.table h.least.leads
+      lower_come : HasCome Lower s limits.conflicts h.after_first lower_trace h.after_lower
+      lower_come = has_come Lower s limits.conflicts h.after_first h.after_lower lower_trace first_come.table h.least.leads
 
-      upper_come : HasComePending Upper s h.after_lower upper_trace h.end
-      upper_come = has_come_pending Upper s limits.conflicts h.after_lower h.end upper_trace h.greatest.pending lower_come.table h.greatest.leads
+      upper_come : HasCome Upper s limits.conflicts h.after_lower upper_trace h.end
+      upper_come = has_come Upper s limits.conflicts h.after_lower h.end upper_trace lower_come.table h.greatest.leads
 
       empty : length h.start.pool ≡ 0
       empty = ap length h.starts.pool
@@ -146,13 +145,13 @@ module _ (p : Parts) (limits : Limits) (within : AreLimits p limits) (Q : LineIt
 
       lower_few : length h.after_lower.pool ≤ pivots_in first + pivots_in lower_trace + 1
       lower_few =
-          let pool = lower_come.pool in
+          let pool = few_more Lower s limits.conflicts h.after_first h.after_lower lower_trace lower_come in
           let few = first_few in
           omega (arith, pool, few)
 
       upper_few : length h.end.pool ≤ limits.pivots + 2
       upper_few =
-          let pool = upper_come.pool in
+          let pool = few_more Upper s limits.conflicts h.after_lower h.end upper_trace upper_come in
           let few = lower_few in
           let a = h.counted in
           let b : h.left_lower + pivots_in lower_trace ≡ h.left_first = h.least.counted in
@@ -171,7 +170,7 @@ module _ (p : Parts) (limits : Limits) (within : AreLimits p limits) (Q : LineIt
           let few = first_few in
           let a = h.counted in
           let b : h.left_lower + pivots_in lower_trace ≡ h.left_first = h.least.counted in
-          trace_fit p (Some q) limits within Q AnyOpen lines lower_trace (length h.after_first.pool + pivots_in lower_trace) (omega (arith, a, b)) lower_come.few (omega (arith, few, a, b)) lower_come.under
+          trace_fit p (Some q) limits within Q AnyOpen lines lower_trace (length h.after_first.pool + pivots_in lower_trace) (omega (arith, a, b)) (few_priced Lower s limits.conflicts h.after_lower (worlds_in lower_trace) (pivots_in lower_trace) lower_come.balanced) (omega (arith, few, a, b)) lower_come.under
 
       upper_fit : AllByRecursion Q (trace_items upper_trace)
       upper_fit =
@@ -179,7 +178,7 @@ module _ (p : Parts) (limits : Limits) (within : AreLimits p limits) (Q : LineIt
           let a = h.counted in
           let b : h.left_lower + pivots_in lower_trace ≡ h.left_first = h.least.counted in
           let c : h.left + pivots_in upper_trace ≡ h.left_lower = h.greatest.counted in
-          trace_fit p (Some q) limits within Q AnyOpen lines upper_trace (length h.after_lower.pool + pivots_in upper_trace) (omega (arith, a, b, c)) upper_come.few (omega (arith, few, a, b, c)) upper_come.under
+          trace_fit p (Some q) limits within Q AnyOpen lines upper_trace (length h.after_lower.pool + pivots_in upper_trace) (omega (arith, a, b, c)) (few_priced Upper s limits.conflicts h.end (worlds_in upper_trace) (pivots_in upper_trace) upper_come.balanced) (omega (arith, few, a, b, c)) upper_come.under
 
       -- the run's sides, where they are to be shown
       lower_side : (upper : Bool) → IsValidSide p Lower q (side_of lower) → IsPrintedSide lower → (0 < open_in_side (side_of lower) → AnyOpen) → AllByRecursion Q (side_items upper lower lower_trace)
@@ -187,10 +186,10 @@ module _ (p : Parts) (limits : Limits) (within : AreLimits p limits) (Q : LineIt
           let few = lower_few in
           let a = h.counted in
           let b : h.left_lower + pivots_in lower_trace ≡ h.left_first = h.least.counted in
-          side_fit upper Lower h.after_lower h.left_lower h.least.pending lower lower_trace h.least.answered valid printed (omega (arith, few, a, b)) if_open lower_fit
+          side_fit upper Lower h.after_lower h.left_lower lower lower_trace h.least.answered valid printed (omega (arith, few, a, b)) if_open lower_fit
 
       upper_side : (is_upper : Bool) → IsValidSide p Upper q (side_of upper) → IsPrintedSide upper → (0 < open_in_side (side_of upper) → AnyOpen) → AllByRecursion Q (side_items is_upper upper upper_trace)
-      upper_side is_upper valid printed if_open = side_fit is_upper Upper h.end h.left h.greatest.pending upper upper_trace h.greatest.answered valid printed upper_few if_open upper_fit
+      upper_side is_upper valid printed if_open = side_fit is_upper Upper h.end h.left upper upper_trace h.greatest.answered valid printed upper_few if_open upper_fit
 
     -- the lines of the events of a run's phase one
     run_trace : (run : QueryAnswer) (first : List Event) → IsLawfulAnswerTo s limits first run → AllByRecursion Q (trace_items first)
@@ -201,7 +200,7 @@ module _ (p : Parts) (limits : Limits) (within : AreLimits p limits) (Q : LineIt
     -- the cause for which phase one is open
     cause_left : (cause : Cause) (first : List Event) → IsLawfulPhaseOne (program_of Nothing s) limits (Open cause) first → IsPrintedCause cause → AnyOpen → AllByRecursion Q (cause_items cause)
     cause_left cause first h printed any =
-        cause_fit p (Some q) limits within Q AnyOpen lines Nothing nodes h.end h.left h.pending cause h.answered printed
+        cause_fit p (Some q) limits within Q AnyOpen lines Nothing nodes h.end h.left cause h.answered printed
         (first_pool p (Some q) limits within Q AnyOpen lines (Open cause) first h) any
 
     -- the lines of a side follow where it is valid, can be printed, and may be open

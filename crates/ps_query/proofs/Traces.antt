@@ -20,7 +20,7 @@ use Rattle.ps_runs.specs.Verdicts.{IsLawfulPhaseOne}
 use Rattle.ps_query.proofs.All.{mapped}
 use Rattle.ps_query.proofs.Models.{IsFit}
 use Rattle.ps_query.proofs.Stages.{start_table}
-use Rattle.ps_query.proofs.Counting.{worlds_in, all_counted, IsEventUnder, HasComePending, has_come_pending}
+use Rattle.ps_query.proofs.Counting.{worlds_in, all_counted, IsEventUnder, HasCome, has_come, few_priced, few_more}
 use Rattle.ps_query.proofs.Places.{col_within}
 use Rattle.ps_query.proofs.Causes.{AreLimits, AreLines, few_rows}
 
@@ -47,8 +47,8 @@ module _ (p : Parts) (q : Option stored.Query) (limits : Limits) (within : AreLi
 
   -- ---- phase one
   module _ (answer : Verdict) (events : List Event) (h : IsLawfulPhaseOne (program_of Nothing s) limits answer events) where
-    came : HasComePending Nothing s h.start events h.end
-    came = has_come_pending Nothing s limits.conflicts h.start h.end events h.pending (start_table s h.start h.starts) h.leads
+    came : HasCome Nothing s limits.conflicts h.start events h.end
+    came = has_come Nothing s limits.conflicts h.start h.end events (start_table s h.start h.starts) h.leads
 
     empty : length h.start.pool ≡ 0
     empty = ap length h.starts.pool
@@ -56,7 +56,7 @@ module _ (p : Parts) (q : Option stored.Query) (limits : Limits) (within : AreLi
     pub first_pool : length h.end.pool ≤ limits.pivots + 2
     first_pool =
         let none = empty in
-        let pool = came.pool in
+        let pool = few_more Nothing s limits.conflicts h.start h.end events came in
         let count = h.counted in
         omega (arith, none, pool, count)
 
@@ -64,4 +64,4 @@ module _ (p : Parts) (q : Option stored.Query) (limits : Limits) (within : AreLi
     first_trace =
         let none = empty in
         let count = h.counted in
-        trace_fit events (length h.start.pool + pivots_in events) (omega (arith, count)) came.few (omega (arith, none, count)) came.under
+        trace_fit events (length h.start.pool + pivots_in events) (omega (arith, count)) (few_priced Nothing s limits.conflicts h.end (worlds_in events) (pivots_in events) came.balanced) (omega (arith, none, count)) came.under

@@ -14,12 +14,17 @@ use Rattle.ps_table.specs.declared.col.Col.{Col}
 use Rattle.ps_table.specs.declared.col.Col.TheVariants as col
 use Rattle.ps_table.specs.declared.place.TableCol.{TableCol}
 use Rattle.ps_table.specs.declared.place.TableCol.TheVariants as shown
-use Rattle.ps_answer.specs.Items.{count, IsColWithin, IsShownWithin, shown_word}
+use Rattle.ps_answer.specs.Items.{count, IsWorldWithin, IsColWithin, IsShownWithin, shown_word}
 use Rattle.ps_answer.specs.Words.{Column, SpellsColumn, SpellsWord}
 use Rattle.ps_reader.specs.Read.{IsRead, IsWordRead}
 use Rattle.ps_reader.specs.Ratios.{IsUnder}
-use Rattle.ps_reader.specs.Kinds.{IsHome, IsWorld, IsVersion, IsNumberedWorld, of_any_size}
+use Rattle.ps_reader.specs.Kinds.{IsHome, IsWorld, IsNotZero, IsVersion, of_any_size}
 use Rattle.ps_reader.specs.Numerals.{capped_size, IsCountUpTo, IsNumberUpTo}
+
+-- a reading of something, of what is made of it
+abbrev pub mapped : {A B : Type 0} → (A → B) → Result A LineFault → Result B LineFault
+mapped f (Ok a) = Ok (f a)
+mapped f (Err why) = Err why
 
 -- one more digit of a size
 pub capped_more : (digits : List ℕ) (i value r : ℕ) → All (λ b. digit_value b < 10) digits → i < length digits → value ≡ capped_size (digits_value 10 (take i digits))
@@ -87,18 +92,24 @@ home_refused digits NotCanonical h = none
 home_refused digits TooLarge h = (col.Home h.0, ((refl, h.1), tt), h.2)
 home_refused digits NoMemory h = h
 
-pub world_refused : (digits : List ℕ) (why : LineFault) → IsCountUpTo 1000001 digits (Err why) → IsWorld digits (Err why)
-world_refused digits NotCanonical h = none
+pub world_refused : (word : List ℕ) (why : LineFault) → IsCountUpTo 1000001 word (Err why) → IsWordRead count (λ n. ⊤) IsWorldWithin word (Err why)
+world_refused word NotCanonical h = λ n s. h n s.0
+world_refused word TooLarge h = (h.0, (h.1, tt), λ w. h.2 w.1)
+world_refused word NoMemory h = h
+
+pub not_zero : (word : List ℕ) (n : ℕ) (r : Result ℕ LineFault) → IsDecimal word n → n ≤ 1000001 → IsNotZero n r → IsWordRead count (λ n. ⊤) IsWorldWithin word r
+not_zero word n (Ok m) d l h = subst (λ x. IsWordRead count (λ n. ⊤) IsWorldWithin word (Ok x)) (sym h.0) ((d, tt), (h.1, l))
+not_zero word n (Err why) d l h = subst (λ x. IsWordRead count (λ n. ⊤) IsWorldWithin word (Err x)) (sym h.0) (n, (d, tt), λ w. omega (arith, w.0, h.1))
+
+pub world_digits : (digits : List ℕ) (r : Result ℕ LineFault) → IsWordRead count (λ n. ⊤) IsWorldWithin digits r → IsWorld digits (mapped (λ n. col.World n) r)
+world_digits digits (Ok n) h = (((refl, h.0.0), tt), h.1)
+world_digits digits (Err NotCanonical) h = none
   where
     none : (c : Col) → SpellsColumn (119 ∷ digits) c × ⊤ → ⊥
     none (col.Home n) s = omega (arith, s.0.0)
-    none (col.World n) s = h n s.0.1
-world_refused digits TooLarge h = (col.World h.0, ((refl, h.1), tt), λ w. h.2 w.1)
-world_refused digits NoMemory h = h
-
-pub numbered_world : (digits : List ℕ) (n : ℕ) (r : Result Col LineFault) → IsDecimal digits n → n ≤ 1000001 → IsNumberedWorld n r → IsWorld digits r
-numbered_world digits n (Ok c) d l h = subst (λ x. IsWorld digits (Ok x)) (sym h.0) (((refl, d), tt), (h.1, l))
-numbered_world digits n (Err why) d l h = subst (λ x. IsWorld digits (Err x)) (sym h.0) (col.World n, ((refl, d), tt), λ w. omega (arith, w.0, h.1))
+    none (col.World n) s = h n (s.0.1, tt)
+world_digits digits (Err TooLarge) h = (col.World h.0, ((refl, h.1.0), tt), h.2)
+world_digits digits (Err NoMemory) h = h
 
 -- a number that is not the one that is due
 pub other_number : (word : List ℕ) (limit due : ℕ) (why : LineFault) → due ≤ limit → IsCountUpTo limit word (Err why) → IsWordRead count (λ n. n ≡ due) (λ n. n ≤ 16) word (Err (of_any_size why))

@@ -8,6 +8,7 @@ pub mod OpeningLines
 pub mod StepsAndGoals
 pub mod FirstLine
 pub mod PlaceWords
+pub mod WorldPlaces
 pub mod ItemSteps
 pub mod Taking
 pub mod Only

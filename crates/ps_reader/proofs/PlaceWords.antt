@@ -22,8 +22,9 @@ use Rattle.ps_reader.specs.declared.line_fault.LineFault.{LineFault}
 use Rattle.ps_reader.specs.declared.line_fault.LineFault.TheVariants.{NotCanonical, TooLarge, NoMemory}
 use Rattle.ps_reader.specs.Cursor.{later}
 use Rattle.ps_reader.specs.Read.{IsWordRead, AreWordsRead, both, IsSaid, IsItemRead}
-use Rattle.ps_reader.specs.Places.{Begins, Leaves, IsFrontRead, IsPlaceRead, IsPrintedPlace}
+use Rattle.ps_reader.specs.Places.{Begins, Leaves, IsFrontRead, IsPlaceRead, price_words, entry_words, IsPrintedPlace}
 use Rattle.ps_reader.proofs.Sequences.{Makes, IsMade, item_read, made, word_then, IsNeverEmpty}
+use Rattle.ps_reader.proofs.Cut.{mapped}
 use Rattle.ps_reader.proofs.Items.{other, IsEndRead, last_word, count_word, column_word, fraction_word}
 
 pub op_nonempty : IsNeverEmpty op_word
@@ -36,10 +37,6 @@ op_nonempty op.Lcm s = omega (arith, ap length s)
 pub shown_nonempty : IsNeverEmpty shown_word
 shown_nonempty shown.Right s = omega (arith, ap length s)
 shown_nonempty (shown.Of c) s = s
-
-abbrev pub mapped : {A B : Type 0} → (A → B) → Result A LineFault → Result B LineFault
-mapped f (Ok a) = Ok (f a)
-mapped f (Err why) = Err why
 
 -- one word
 pub front_one : {A : Type 0} (v : A → Word) (F : A → Type 0) (ws : List (List ℕ)) (r : Result A LineFault) → IsNeverEmpty v → IsWordRead v (λ a. ⊤) F (first_of ws) r → IsFrontRead (λ a. v a ∷ []) F ws (later ws) r
@@ -83,8 +80,10 @@ place_name (place.Scaled i) = codes "scaled"
 place_name (place.Weight i) = codes "weight"
 place_name (place.Weighed i) = codes "weighed"
 place_name (place.Total i) = codes "total"
-place_name (place.NewTimes i m) = codes "new-times"
-place_name (place.NewPlus i m) = codes "new-plus"
+place_name (place.PriceTimes n m) = codes "price-times"
+place_name (place.PricePlus n m) = codes "price-plus"
+place_name (place.ColumnTimes n i m) = codes "column-times"
+place_name (place.ColumnPlus n i m) = codes "column-plus"
 
 abbrev pub place_rest : Place → List Word
 place_rest (place.Ratio i) = count i ∷ []
@@ -97,8 +96,10 @@ place_rest (place.Scaled i) = count i ∷ []
 place_rest (place.Weight i) = count i ∷ []
 place_rest (place.Weighed i) = count i ∷ []
 place_rest (place.Total i) = count i ∷ []
-place_rest (place.NewTimes i m) = count i ∷ count m ∷ []
-place_rest (place.NewPlus i m) = count i ∷ count m ∷ []
+place_rest (place.PriceTimes n m) = price_words (n, m)
+place_rest (place.PricePlus n m) = price_words (n, m)
+place_rest (place.ColumnTimes n i m) = entry_words (n, (i, m))
+place_rest (place.ColumnPlus n i m) = entry_words (n, (i, m))
 
 words_are : (p : Place) → place_words p ≡ Letters (place_name p) ∷ place_rest p
 words_are (place.Ratio i) = refl
@@ -207,20 +208,6 @@ cost_kind = record { words = λ a. refl; within = λ a f. f; back = λ a w. w; o
     only (place.Cost j i) e = ((j, i), refl)
     only p e = other (codes "cost") (place_name p) refl e
 
-new_times_kind : IsPlaceKind {A = ℕ × ℕ} (codes "new-times") (λ a. place.NewTimes a.0 a.1) (λ a. count a.0 ∷ count a.1 ∷ []) (λ a. IsRowIn a.0 × IsRowIn a.1)
-new_times_kind = record { words = λ a. refl; within = λ a f. f; back = λ a w. w; only = only }
-  where
-    only : (p : Place) → codes "new-times" ≡ place_name p → (a : ℕ × ℕ) × (p ≡ place.NewTimes a.0 a.1)
-    only (place.NewTimes i j) e = ((i, j), refl)
-    only p e = other (codes "new-times") (place_name p) refl e
-
-new_plus_kind : IsPlaceKind {A = ℕ × ℕ} (codes "new-plus") (λ a. place.NewPlus a.0 a.1) (λ a. count a.0 ∷ count a.1 ∷ []) (λ a. IsRowIn a.0 × IsRowIn a.1)
-new_plus_kind = record { words = λ a. refl; within = λ a f. f; back = λ a w. w; only = only }
-  where
-    only : (p : Place) → codes "new-plus" ≡ place_name p → (a : ℕ × ℕ) × (p ≡ place.NewPlus a.0 a.1)
-    only (place.NewPlus i j) e = ((i, j), refl)
-    only p e = other (codes "new-plus") (place_name p) refl e
-
 -- places of a row
 abbrev pub IsRowRead : List ℕ → Result ℕ LineFault → Type 0
 IsRowRead word r = IsWordRead count (λ n. ⊤) (λ n. n ≤ 100) word r
@@ -264,31 +251,23 @@ pub cost_read : (ws : List (List ℕ)) (r : Result Col LineFault) (q : Result �
 cost_read ws r q h k = place_front (codes "cost") _ _ _ ws (later (later ws)) (both r q) cost_kind
     (front_then Column IsColWithin (λ i. count i ∷ []) (λ i. i ≤ 100) ws (later (later ws)) r q column_word h (front_one count _ (later ws) q count_word k))
 
-pub new_times_read : (ws : List (List ℕ)) (r q : Result ℕ LineFault) → IsRowRead (first_of ws) r → IsRowRead (first_of (later ws)) q
-    → IsPlaceRead (codes "new-times" ∷ ws) (later (later ws)) (mapped (λ a. place.NewTimes a.0 a.1) (both r q))
-new_times_read ws r q h k = place_front (codes "new-times") _ _ _ ws (later (later ws)) (both r q) new_times_kind
-    (front_then count (λ i. i ≤ 100) (λ i. count i ∷ []) (λ i. i ≤ 100) ws (later (later ws)) r q count_word h (front_one count _ (later ws) q count_word k))
-
-pub new_plus_read : (ws : List (List ℕ)) (r q : Result ℕ LineFault) → IsRowRead (first_of ws) r → IsRowRead (first_of (later ws)) q
-    → IsPlaceRead (codes "new-plus" ∷ ws) (later (later ws)) (mapped (λ a. place.NewPlus a.0 a.1) (both r q))
-new_plus_read ws r q h k = place_front (codes "new-plus") _ _ _ ws (later (later ws)) (both r q) new_plus_kind
-    (front_then count (λ i. i ≤ 100) (λ i. count i ∷ []) (λ i. i ≤ 100) ws (later (later ws)) r q count_word h (front_one count _ (later ws) q count_word k))
-
 -- no other name is one of a place
 pub no_place : (name : List ℕ) (ws rest : List (List ℕ)) → IsPrintedPlace name → (name ≡ codes "whole" → ⊥) → (name ≡ codes "scaled" → ⊥) → (name ≡ codes "weight" → ⊥) → (name ≡ codes "weighed" → ⊥) → (name ≡ codes "total" → ⊥)
     → IsPlaceRead (name ∷ ws) rest (Err NotCanonical)
-no_place name ws rest h a b c d e (place.Ratio i) tail s = h.not_ratio s.0
-no_place name ws rest h a b c d e (place.Scale j) tail s = h.not_scale s.0
-no_place name ws rest h a b c d e (place.Times i j) tail s = h.not_times s.0
-no_place name ws rest h a b c d e (place.Minus i j) tail s = h.not_minus s.0
-no_place name ws rest h a b c d e (place.Cost j i) tail s = h.not_cost s.0
+no_place name ws rest h a b c d e (place.Ratio i) tail s = h.beside.not_ratio s.0
+no_place name ws rest h a b c d e (place.Scale j) tail s = h.beside.not_scale s.0
+no_place name ws rest h a b c d e (place.Times i j) tail s = h.beside.not_times s.0
+no_place name ws rest h a b c d e (place.Minus i j) tail s = h.beside.not_minus s.0
+no_place name ws rest h a b c d e (place.Cost j i) tail s = h.beside.not_cost s.0
 no_place name ws rest h a b c d e (place.Whole i) tail s = a s.0
 no_place name ws rest h a b c d e (place.Scaled i) tail s = b s.0
 no_place name ws rest h a b c d e (place.Weight i) tail s = c s.0
 no_place name ws rest h a b c d e (place.Weighed i) tail s = d s.0
 no_place name ws rest h a b c d e (place.Total i) tail s = e s.0
-no_place name ws rest h a b c d e (place.NewTimes i m) tail s = h.not_new_times s.0
-no_place name ws rest h a b c d e (place.NewPlus i m) tail s = h.not_new_plus s.0
+no_place name ws rest h a b c d e (place.PriceTimes n m) tail s = h.not_price_times s.0
+no_place name ws rest h a b c d e (place.PricePlus n m) tail s = h.not_price_plus s.0
+no_place name ws rest h a b c d e (place.ColumnTimes n i m) tail s = h.not_column_times s.0
+no_place name ws rest h a b c d e (place.ColumnPlus n i m) tail s = h.not_column_plus s.0
 
 -- where no word is left there is no name
 letters : (ws : List (List ℕ)) → SpellWords ws (map Letters ws)
@@ -367,6 +346,9 @@ wide_read ws rest p o l r e a b c d f =
     (word_then Fraction _ _ _ _ _ (later rest) l (both r e) fraction_word c (last_word Fraction _ _ (later (later rest)) r e fraction_word d f))))
 
 -- a reading of a place that ended so
+pub mapped_ok : {A : Type 0} (f : A → Place) (ws rest : List (List ℕ)) (r : Result A LineFault) (a : A) → IsPlaceRead ws rest (mapped f r) → r ≡ Ok a → IsPlaceRead ws rest (Ok (f a))
+mapped_ok f ws rest r a h g = subst (λ x. IsPlaceRead ws rest x) (ap (mapped f) g) h
+
 pub mapped_err : {A : Type 0} (f : A → Place) (ws rest : List (List ℕ)) (r : Result A LineFault) (e : LineFault) (q : Result Place LineFault) → IsPlaceRead ws rest (mapped f r) → r ≡ Err e → q ≡ Err e
     → IsPlaceRead ws rest q
 mapped_err f ws rest r e q h g k = subst (λ x. IsPlaceRead ws rest x) (ap (mapped f) g ∙ sym k) h

@@ -1,7 +1,6 @@
 -- Digits of a column, and the number of a query.
 use Rattle.std.specs.Prelude.{ℕ, ◌≡◌, ◌≤◌, List, ◌∷◌, Result, Ok, Err, ⊤}
 use Rattle.ps_table.specs.declared.col.Col.{Col}
-use Rattle.ps_table.specs.declared.col.Col.TheVariants.{World}
 use Rattle.ps_answer.specs.Items.{IsColWithin}
 use Rattle.ps_answer.specs.declared.limits.TheConstants.{MOST_QUERIES}
 use Rattle.ps_answer.specs.Words.{SpellsColumn}
@@ -26,10 +25,10 @@ abbrev pub IsVersion : ℕ → Result (Unit {0}) LineFault → Type 0
 IsVersion n (Ok u) = n ≡ 1
 IsVersion n (Err why) = (why ≡ NotCanonical) × (n ≡ 1 → ⊥)
 
--- the world of this number, if it is one
-abbrev pub IsNumberedWorld : ℕ → Result Col LineFault → Type 0
-IsNumberedWorld n (Ok c) = (c ≡ World n) × (1 ≤ n)
-IsNumberedWorld n (Err why) = (why ≡ TooLarge) × (n ≡ 0)
+-- the number, if it isn't 0
+abbrev pub IsNotZero : ℕ → Result ℕ LineFault → Type 0
+IsNotZero n (Ok m) = (m ≡ n) × (1 ≤ n)
+IsNotZero n (Err why) = (why ≡ TooLarge) × (n ≡ 0)
 
 -- that a number is too large says no more than that it isn't the one that is due
 abbrev pub of_any_size : LineFault → LineFault

@@ -1,7 +1,8 @@
 -- Places of the solver that are read.
-use Rattle.std.specs.Prelude.{ℕ, ◌≡◌, List, ◌++◌, codes, Result, Ok, Err}
+use Rattle.std.specs.Prelude.{ℕ, ◌≡◌, ◌≤◌, List, [], ◌∷◌, ◌++◌, codes, Result, Ok, Err}
 use Rattle.ps_table.specs.declared.place.Place.{Place}
-use Rattle.ps_answer.specs.Items.{place_words, IsPlaceWithin}
+use Rattle.ps_answer.specs.Items.{count, place_words, IsWorldWithin, IsPlaceWithin}
+use Rattle.ps_answer.specs.declared.limits.TheConstants.{MOST_ROW}
 use Rattle.ps_answer.specs.Words.{Word, SpellWords}
 use Rattle.ps_reader.specs.declared.line_fault.LineFault.{LineFault}
 use Rattle.ps_reader.specs.declared.line_fault.LineFault.TheVariants.{NotCanonical, TooLarge, NoMemory}
@@ -27,12 +28,34 @@ IsFrontRead written Fits words rest (Err NoMemory) = ⊥
 abbrev pub IsPlaceRead : List (List ℕ) → List (List ℕ) → Result Place LineFault → Type 0
 IsPlaceRead words rest result = IsFrontRead place_words IsPlaceWithin words rest result
 
+-- a world and a home
+abbrev pub price_words : ℕ × ℕ → List Word
+price_words a = count a.0 ∷ count a.1 ∷ []
+
+-- the world is within the limits, and so is the home
+abbrev pub IsPriceWithin : ℕ × ℕ → Type 0
+IsPriceWithin a = IsWorldWithin a.0 × (a.1 ≤ MOST_ROW)
+
+-- a world, a row and a home
+abbrev pub entry_words : ℕ × (ℕ × ℕ) → List Word
+entry_words a = count a.0 ∷ count a.1.0 ∷ count a.1.1 ∷ []
+
+-- the world is within the limits, and so are the row and the home
+abbrev pub IsEntryWithin : ℕ × (ℕ × ℕ) → Type 0
+IsEntryWithin a = IsWorldWithin a.0 × ((a.1.0 ≤ MOST_ROW) × (a.1.1 ≤ MOST_ROW))
+
 -- a name is none of a place within the table
-pub record IsPrintedPlace (name : List ℕ) : Type 0 where
+pub record IsBesideTable (name : List ℕ) : Type 0 where
   pub not_ratio : name ≡ codes "ratio" → ⊥
   pub not_scale : name ≡ codes "scale" → ⊥
   pub not_times : name ≡ codes "times" → ⊥
   pub not_minus : name ≡ codes "minus" → ⊥
   pub not_cost : name ≡ codes "cost" → ⊥
-  pub not_new_times : name ≡ codes "new-times" → ⊥
-  pub not_new_plus : name ≡ codes "new-plus" → ⊥
+
+-- nor one of a price or of a world's column
+pub record IsPrintedPlace (name : List ℕ) : Type 0 where
+  pub beside : IsBesideTable name
+  pub not_price_times : name ≡ codes "price-times" → ⊥
+  pub not_price_plus : name ≡ codes "price-plus" → ⊥
+  pub not_column_times : name ≡ codes "column-times" → ⊥
+  pub not_column_plus : name ≡ codes "column-plus" → ⊥

@@ -1,11 +1,11 @@
 //! Words that say a number, a column, an operation or a fraction.
 ghost use Rattle.std.specs.Prelude.{◌≡◌, ◌≤◌, ◌≤ℤ◌, pos, ⊤};
-ghost use Rattle.ps_answer.specs.Items.{count, IsPrintable, IsColWithin, IsShownWithin, shown_word};
-ghost use Rattle.ps_answer.specs.Items.{op_word};
+ghost use Rattle.ps_answer.specs.Items.{count, IsPrintable, IsWorldWithin, IsColWithin};
+ghost use Rattle.ps_answer.specs.Items.{IsShownWithin, shown_word, op_word};
 ghost use Rattle.ps_answer.specs.declared.limits.TheConstants.{MOST_ROW, MOST_WORLD, MOST_QUERIES};
 ghost use Rattle.ps_answer.specs.Words.{Number, Column};
 ghost use Rattle.ps_reader.specs.Read.{IsWordRead};
-ghost use Rattle.ps_reader.specs.Kinds.{IsHome, IsWorld, IsQuery, IsVersion, IsNumberedWorld};
+ghost use Rattle.ps_reader.specs.Kinds.{IsHome, IsWorld, IsNotZero, IsQuery, IsVersion};
 
 use crate::line_fault::LineFault;
 use crate::numeral::{count_up_to, number_up_to};
@@ -27,6 +27,25 @@ pub(crate) fn row(word: &[u8]) -> Result<u32, LineFault>
     ensures { IsWordRead (λ n. count n) (λ n. ⊤) (λ n. n ≤ MOST_ROW) word.now result }
 {
     Ok(count_up_to(MOST_ROW, word)? as u32)
+}
+
+/// The number of a world, from 1 to 1,000,001.
+pub(crate) fn world_number(word: &[u8]) -> Result<u32, LineFault>
+    ensures { IsWordRead (λ n. count n) (λ n. ⊤) IsWorldWithin word.now result }
+{
+    let n = count_up_to(MOST_WORLD, word)?;
+    not_zero(n)
+}
+
+fn not_zero(n: u128) -> Result<u32, LineFault>
+    requires { n ≤ MOST_WORLD }
+    ensures { IsNotZero n result }
+{
+    if n == 0 {
+        Err(LineFault::TooLarge)
+    } else {
+        Ok(n as u32)
+    }
 }
 
 /// A number up to 2^90 in size.
@@ -106,19 +125,7 @@ fn home(digits: &[u8]) -> Result<Col, LineFault>
 fn world(digits: &[u8]) -> Result<Col, LineFault>
     ensures { IsWorld digits.now result }
 {
-    let n = count_up_to(MOST_WORLD, digits)?;
-    numbered_world(n)
-}
-
-fn numbered_world(n: u128) -> Result<Col, LineFault>
-    requires { n ≤ MOST_WORLD }
-    ensures { IsNumberedWorld n result }
-{
-    if n == 0 {
-        Err(LineFault::TooLarge)
-    } else {
-        Ok(Col::World(n as u32))
-    }
+    Ok(Col::World(world_number(digits)?))
 }
 
 /// A column, or `r` for the right side.

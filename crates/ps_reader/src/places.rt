@@ -1,10 +1,11 @@
 //! Places of the solver, behind their names.
 ghost use Rattle.std.specs.Prelude.{◌∷◌, codes};
 ghost use Rattle.ps_reader.specs.Cursor.{words_in};
-ghost use Rattle.ps_reader.specs.Places.{IsPlaceRead};
+ghost use Rattle.ps_reader.specs.Places.{IsFrontRead, IsPlaceRead, price_words, IsPriceWithin};
+ghost use Rattle.ps_reader.specs.Places.{entry_words, IsEntryWithin};
 
 use crate::both::both;
-use crate::kinds::{column, row, table_column};
+use crate::kinds::{column, row, table_column, world_number};
 use crate::line_fault::LineFault;
 use crate::words::Words;
 use ps_table::Place;
@@ -95,22 +96,55 @@ pub(crate) fn total(words: &mut Words<'_>) -> Result<Place, LineFault>
     Ok(Place::Total { row })
 }
 
-/// The row and the home behind `new-times`.
-pub(crate) fn new_times(words: &mut Words<'_>) -> Result<Place, LineFault>
-    ensures { IsPlaceRead (codes "new-times" ∷ words_in words.old) (words_in words.new) result }
+/// A world and a home.
+fn world_and_home(words: &mut Words<'_>) -> Result<(u32, u32), LineFault>
+    ensures { IsFrontRead price_words IsPriceWithin (words_in words.old) (words_in words.new)
+        result }
 {
-    let row = row(words.next());
-    let home = crate::kinds::row(words.next());
-    let (row, home) = both(row, home)?;
-    Ok(Place::NewTimes { row, home })
+    let world = world_number(words.next());
+    let home = row(words.next());
+    both(world, home)
 }
 
-/// The row and the home behind `new-plus`.
-pub(crate) fn new_plus(words: &mut Words<'_>) -> Result<Place, LineFault>
-    ensures { IsPlaceRead (codes "new-plus" ∷ words_in words.old) (words_in words.new) result }
+/// A world, a row and a home.
+fn world_row_and_home(words: &mut Words<'_>) -> Result<(u32, (u32, u32)), LineFault>
+    ensures { IsFrontRead entry_words IsEntryWithin (words_in words.old) (words_in words.new)
+        result }
 {
-    let row = row(words.next());
-    let home = crate::kinds::row(words.next());
-    let (row, home) = both(row, home)?;
-    Ok(Place::NewPlus { row, home })
+    let world = world_number(words.next());
+    let at = row(words.next());
+    let home = row(words.next());
+    both(world, both(at, home))
+}
+
+/// The world and the home behind `price-times`.
+pub(crate) fn price_times(words: &mut Words<'_>) -> Result<Place, LineFault>
+    ensures { IsPlaceRead (codes "price-times" ∷ words_in words.old) (words_in words.new) result }
+{
+    let (world, home) = world_and_home(words)?;
+    Ok(Place::PriceTimes { world, home })
+}
+
+/// The world and the home behind `price-plus`.
+pub(crate) fn price_plus(words: &mut Words<'_>) -> Result<Place, LineFault>
+    ensures { IsPlaceRead (codes "price-plus" ∷ words_in words.old) (words_in words.new) result }
+{
+    let (world, home) = world_and_home(words)?;
+    Ok(Place::PricePlus { world, home })
+}
+
+/// The world, the row and the home behind `column-times`.
+pub(crate) fn column_times(words: &mut Words<'_>) -> Result<Place, LineFault>
+    ensures { IsPlaceRead (codes "column-times" ∷ words_in words.old) (words_in words.new) result }
+{
+    let (world, (row, home)) = world_row_and_home(words)?;
+    Ok(Place::ColumnTimes { world, row, home })
+}
+
+/// The world, the row and the home behind `column-plus`.
+pub(crate) fn column_plus(words: &mut Words<'_>) -> Result<Place, LineFault>
+    ensures { IsPlaceRead (codes "column-plus" ∷ words_in words.old) (words_in words.new) result }
+{
+    let (world, (row, home)) = world_row_and_home(words)?;
+    Ok(Place::ColumnPlus { world, row, home })
 }

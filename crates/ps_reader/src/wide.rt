@@ -2,15 +2,15 @@
 ghost use Rattle.std.specs.Prelude.{◌∷◌, codes};
 ghost use Rattle.ps_answer.specs.declared.part.Part.TheVariants.{ACause};
 ghost use Rattle.ps_reader.specs.Cursor.{words_in};
-ghost use Rattle.ps_reader.specs.Places.{IsPlaceRead, IsPrintedPlace};
+ghost use Rattle.ps_reader.specs.Places.{IsPlaceRead, IsBesideTable, IsPrintedPlace};
 ghost use Rattle.ps_reader.specs.Read.{IsItemRead};
 
 use crate::both::both;
 use crate::kinds::op;
 use crate::line_fault::LineFault;
 use crate::places::{
-    cost, minus, new_plus, new_times, ratio, scale, scaled_row, times, total, weighed_row, weight,
-    whole,
+    column_plus, column_times, cost, minus, price_plus, price_times, ratio, scale, scaled_row,
+    times, total, weighed_row, weight, whole,
 };
 use crate::ratio::operand;
 use crate::words::{Words, is};
@@ -35,7 +35,7 @@ pub(crate) fn open_wide(words: &mut Words<'_>) -> Result<LineItem, LineFault>
     })
 }
 
-// A place of the solver: its name, and one word or two.
+// A place of the solver: its name, and one word to three.
 fn place(words: &mut Words<'_>) -> Result<Place, LineFault>
     ensures { IsPlaceRead (words_in words.old) (words_in words.new) result }
 {
@@ -55,11 +55,25 @@ fn place(words: &mut Words<'_>) -> Result<Place, LineFault>
     if is(name, b"cost") {
         return cost(words);
     }
-    if is(name, b"new-times") {
-        return new_times(words);
+    place_of_world(name, words)
+}
+
+// A place in the price of a world or in its column.
+fn place_of_world(name: &[u8], words: &mut Words<'_>) -> Result<Place, LineFault>
+    requires { IsBesideTable name.now }
+    ensures { IsPlaceRead (name.now ∷ words_in words.old) (words_in words.new) result }
+{
+    if is(name, b"price-times") {
+        return price_times(words);
     }
-    if is(name, b"new-plus") {
-        return new_plus(words);
+    if is(name, b"price-plus") {
+        return price_plus(words);
+    }
+    if is(name, b"column-times") {
+        return column_times(words);
+    }
+    if is(name, b"column-plus") {
+        return column_plus(words);
     }
     place_of_value(name, words)
 }

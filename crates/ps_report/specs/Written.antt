@@ -42,6 +42,10 @@ wide_item at = line.OpenWide at.place at.op (ratio_of at.left) (ratio_of at.righ
 abbrev pub cell_words : List ℕ → ℕ → TableCol → List Word
 cell_words name row col = Letters name ∷ count row ∷ shown_word col ∷ []
 
+-- the words of a place in a world's column: its name, a world, a row, and a home
+abbrev pub entry_words : List ℕ → ℕ → ℕ → ℕ → List Word
+entry_words name world row home = Letters name ∷ count world ∷ count row ∷ count home ∷ []
+
 -- `open`, and why
 abbrev pub open_words : List ℕ → List Word
 open_words name = Letters (codes "open") ∷ Letters name ∷ []

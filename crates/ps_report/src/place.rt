@@ -5,17 +5,17 @@ ghost use Rattle.ps_io.specs.Lines.{line_length};
 ghost use Rattle.ps_answer.specs.Items.{count, place_words, shown_word};
 ghost use Rattle.ps_answer.specs.Words.{Letters};
 ghost use Rattle.ps_table.specs.declared.place.Place.TheVariants as place;
-ghost use Rattle.ps_report.specs.Written.{AddsWords, cell_words};
+ghost use Rattle.ps_report.specs.Written.{AddsWords, cell_words, entry_words};
 
 use crate::words::{LONGEST_COLUMN, add_column};
 use ps_io::{LONGEST_LINE, Lines, Sink};
 use ps_table::{Col, Place, TableCol};
 
 /// A place has at most so many bytes, with the spaces before its words.
-pub(crate) const LONGEST_PLACE: usize = 100;
+pub(crate) const LONGEST_PLACE: usize = 140;
 
 /// The longest of the words that name places.
-pub(crate) const LONGEST_NAME: usize = 9;
+pub(crate) const LONGEST_NAME: usize = 12;
 
 /// Adds a place to the line: its name, and its rows and columns.
 pub(crate) fn add_place<O: Sink>(lines: &mut Lines<'_, O>, place: &Place)
@@ -34,8 +34,14 @@ pub(crate) fn add_place<O: Sink>(lines: &mut Lines<'_, O>, place: &Place)
         Place::Weight { row } => add_row(lines, b"weight", *row),
         Place::Weighed { row } => add_row(lines, b"weighed", *row),
         Place::Total { row } => add_row(lines, b"total", *row),
-        Place::NewTimes { row, home } => add_rows(lines, b"new-times", *row, *home),
-        Place::NewPlus { row, home } => add_rows(lines, b"new-plus", *row, *home),
+        Place::PriceTimes { world, home } => add_price(lines, b"price-times", *world, *home),
+        Place::PricePlus { world, home } => add_price(lines, b"price-plus", *world, *home),
+        Place::ColumnTimes { world, row, home } => {
+            add_entry(lines, b"column-times", *world, *row, *home)
+        }
+        Place::ColumnPlus { world, row, home } => {
+            add_entry(lines, b"column-plus", *world, *row, *home)
+        }
     }
 }
 
@@ -50,14 +56,30 @@ fn add_row<O: Sink>(lines: &mut Lines<'_, O>, name: &[u8], row: u32)
     lines.number(row as i128);
 }
 
-fn add_rows<O: Sink>(lines: &mut Lines<'_, O>, name: &[u8], row: u32, home: u32)
+// A place in the price of a world.
+fn add_price<O: Sink>(lines: &mut Lines<'_, O>, name: &[u8], world: u32, home: u32)
     requires one_word { IsWord name.now }
     requires name { length name.now ≤ LONGEST_NAME }
     requires fits { line_length lines.old + LONGEST_PLACE < LONGEST_LINE }
-    ensures line { AddsWords lines.old lines.new (Letters name.now ∷ count row ∷ count home ∷ []) }
+    ensures line { AddsWords lines.old lines.new
+        (Letters name.now ∷ count world ∷ count home ∷ []) }
     ensures short { line_length lines.new ≤ line_length lines.old + LONGEST_PLACE }
 {
     lines.word(name);
+    lines.number(world as i128);
+    lines.number(home as i128);
+}
+
+// A place in an entry of a world's column.
+fn add_entry<O: Sink>(lines: &mut Lines<'_, O>, name: &[u8], world: u32, row: u32, home: u32)
+    requires one_word { IsWord name.now }
+    requires name { length name.now ≤ LONGEST_NAME }
+    requires fits { line_length lines.old + LONGEST_PLACE < LONGEST_LINE }
+    ensures line { AddsWords lines.old lines.new (entry_words name.now world row home) }
+    ensures short { line_length lines.new ≤ line_length lines.old + LONGEST_PLACE }
+{
+    lines.word(name);
+    lines.number(world as i128);
     lines.number(row as i128);
     lines.number(home as i128);
 }

@@ -13,6 +13,8 @@ mod logs;
 #[cfg(test)]
 mod report_lines;
 #[cfg(test)]
+mod report_places;
+#[cfg(test)]
 mod report_reading;
 #[cfg(test)]
 mod report_writing;

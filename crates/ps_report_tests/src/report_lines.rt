@@ -52,7 +52,7 @@ const READ: [(Part, &[u8]); 38] = [
     (Part::ACause, b"open wide times 3 w5 mul -1/2 3/4\n"),
     (
         Part::ACause,
-        b"open wide new-plus 0 100 add 170141183460469231731687303715884105727/1 0/1\n",
+        b"open wide minus 0 h100 sub 170141183460469231731687303715884105727/1 0/1\n",
     ),
     (Part::AVerdict, b"open wide scale r div 1/3 1/2\n"),
 ];

@@ -11,10 +11,10 @@ use ps_table::{Col, Place, TableCol, WideAt};
 use std::alloc::Global;
 
 const WRITTEN: &[u8] =
-    b"report 1\nmodel 10 2\ndual 3 -7 0\nopen conflicts 5\nopen wide new-times 3 7 mul -5/7 1/2\nopen wide times 4 w12 mul -5/7 1/2\nquery 2\nupper 1/2\nend\n";
+    b"report 1\nmodel 10 2\ndual 3 -7 0\nopen conflicts 5\nopen wide column-times 12 3 7 mul -5/7 1/2\nopen wide times 4 w12 mul -5/7 1/2\nquery 2\nupper 1/2\nend\n";
 
 // The number of the write that fails, and how many bytes were written by pieces of 16.
-const PREFIXES: [(u64, usize); 5] = [(1, 0), (2, 9), (4, 32), (7, 65), (14, 139)];
+const PREFIXES: [(u64, usize); 5] = [(1, 0), (2, 9), (4, 32), (7, 65), (14, 145)];
 
 fn refused(place: Place) -> WideAt {
     WideAt {
@@ -32,7 +32,12 @@ fn write_lines<O: Sink>(lines: &mut Lines<'_, O>) -> Result<(), WriteFault>
     write_model_head(lines, &10, 2)?;
     write_dual_head(lines, &3, &-7, 0)?;
     write_open_conflicts(lines, 5)?;
-    write_open_wide(lines, &refused(Place::NewTimes { row: 3, home: 7 }))?;
+    let place = Place::ColumnTimes {
+        world: 12,
+        row: 3,
+        home: 7,
+    };
+    write_open_wide(lines, &refused(place))?;
     let col = TableCol::Of(Col::World(12));
     write_open_wide(lines, &refused(Place::Times { row: 4, col }))?;
     write_query(lines, 2)?;

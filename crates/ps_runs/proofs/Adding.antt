@@ -1,5 +1,5 @@
 -- A run's table with the column of one world more.
-use Rattle.std.proofs.Common.{◌≡◌, suc, ◌+◌, ◌-◌, ◌<◌, pos, List, [], ◌∷◌, ◌++◌, map, length, get_or, sym, refl, ap, ◌∙◌, subst, arith}
+use Rattle.std.proofs.Common.{◌≡◌, suc, ◌+◌, ◌-◌, ◌<◌, ℤ, pos, List, [], ◌∷◌, ◌++◌, map, length, get_or, sym, refl, ap, ◌∙◌, subst, arith}
 use Rattle.std.proofs.lemmas.List.{length-append, map-append}
 use Rattle.ps_meaning.specs.Formula.{World}
 use Rattle.ps_meaning.specs.Rational.{fraction}
@@ -40,6 +40,7 @@ module _ (s : Setting) (pool : List World) (w : World) (t : Tableau) (run : IsRu
   added_world u added stands tableau = record {
     kinds = added.kinds ∙ run.kinds;
     worlds = let a = added.worlds in let b = run.worlds in let e = length-append pool (w ∷ []) in omega (arith, a, b, e);
+    entries = added.added ∙ ap (λ es. es ++ entries_of s w ∷ []) run.entries ∙ sym (map-append (entries_of s) pool (w ∷ []));
     tableau = tableau;
     stands = stands (columns_of s more) next_column stands_longer;
     values = λ i l.
@@ -48,11 +49,16 @@ module _ (s : Setting) (pool : List World) (w : World) (t : Tableau) (run : IsRu
         subst IsNonneg (sym (added.before i 0 low (omega arith))) (run.values i low);
   }
 
+none : (es : List (List ℤ)) → length es ≡ 0 → es ≡ []
+none [] h = refl
+none (e ∷ es) h = absurd (omega (arith, h))
+
 -- the table of the homes
 pub new_table : (s : Setting) (t : Tableau) → t.kinds ≡ homes_of s → t.worlds ≡ 0 → HasUnitHomes (homes_of s) t → IsTableForHomes (homes_of s) t → IsTableau t → IsRunTable (frame_over s) [] t
 new_table s t kinds worlds units stands tableau = record {
   kinds = kinds;
   worlds = worlds;
+  entries = none t.entries (tableau.worlds ∙ worlds);
   tableau = tableau;
   stands = stands (columns_of s []) (subst (λ n. HasHomes n (columns_of s [])) (sym (homes_count s)) (has_homes s []));
   values = λ i l.

@@ -1,11 +1,10 @@
 -- Events follow events.
-use Rattle.std.proofs.Common.{◌≡◌, ℕ, ◌+◌, Option, Some, List, [], ◌∷◌, ◌++◌, sym, subst, arith}
+use Rattle.std.proofs.Common.{◌≡◌, ℕ, ◌+◌, List, [], ◌∷◌, ◌++◌, sym, subst, arith}
 use Rattle.std.proofs.lemmas.List.{append-nil, append_assoc}
-use Rattle.ps_meaning.specs.Formula.{World}
 use Rattle.ps_table.specs.declared.event.Event.{Event}
 use Rattle.ps_table.specs.declared.event.Event.TheVariants.{Pivot, Priced}
 use Rattle.ps_runs.specs.Programs.{Program}
-use Rattle.ps_runs.specs.Runs.{Stage, LeadsTo, still, pivoted, priced, LeadsToPending, entire, pending, pivots_in}
+use Rattle.ps_runs.specs.Runs.{Stage, LeadsTo, still, pivoted, priced, pivots_in}
 
 pub pivots_in-append : (xs ys : List Event) → pivots_in (xs ++ ys) ≡ pivots_in xs + pivots_in ys
 pivots_in-append [] ys = omega arith
@@ -20,9 +19,3 @@ module _ (p : Program) (conflicts : ℕ) where
       (pivoted a e (xs ++ events) enter leave basis (leads_on a b e xs events first before) lawful based)
   leads_on a b c xs ys first (priced d e events world before is) =
       subst (λ es. LeadsTo p conflicts a es c) (append_assoc xs events (Priced world ∷ [])) (priced a e (xs ++ events) world (leads_on a b e xs events first before) is)
-
-  pub leads_on_pending : (a b c : Stage) (xs ys : List Event) (w : Option World) → LeadsTo p conflicts a xs b → LeadsToPending p conflicts b ys w c
-      → LeadsToPending p conflicts a (xs ++ ys) w c
-  leads_on_pending a b c xs ys w first (entire d e events leads) = entire a c (xs ++ ys) (leads_on a b c xs ys first leads)
-  leads_on_pending a b c xs ys w first (pending d e events world leads is) =
-      subst (λ es. LeadsToPending p conflicts a es (Some world) c) (append_assoc xs events (Priced world ∷ [])) (pending a c (xs ++ events) world (leads_on a b c xs events first leads) is)

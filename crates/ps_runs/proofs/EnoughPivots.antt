@@ -1,12 +1,11 @@
 -- No lawful run reaches a limit that is enough.
-use Rattle.std.proofs.Common.{◌+◌, ◌≡◌, ℕ, ◌-◌, ◌<◌, Option, Some, None, List, [], ◌∷◌, ◌++◌, length, sym, refl, subst, arith, All}
+use Rattle.std.proofs.Common.{◌+◌, ◌≡◌, ℕ, ◌-◌, ◌<◌, List, [], ◌∷◌, ◌++◌, length, sym, refl, subst, arith, All}
 use Rattle.std.proofs.lemmas.List.Elements.{All-nil, All-cons}
 use Rattle.ps_meaning.specs.Rational.{Rational}
 use Rattle.ps_meaning.specs.Formula.{World}
 use Rattle.ps_simplex.specs.Table.{unit_at}
 use Rattle.ps_simplex.specs.declared.phase.Phase.TheVariants.{One}
 use Rattle.ps_table.specs.declared.event.Event.{Event}
-use Rattle.ps_table.specs.declared.event.Event.TheVariants.{Priced}
 use Rattle.std.specs.List.{AllZip}
 use Rattle.ps_problem.specs.declared.query.Query.{Query}
 use Rattle.ps_problem.specs.Problems.{Parts}
@@ -25,8 +24,7 @@ use Rattle.ps_claims.specs.declared.claim_kind.ClaimKind.TheVariants.{Nothing, L
 use Rattle.ps_runs.specs.declared.limits.Limits.{Limits}
 use Rattle.ps_runs.specs.Subjects.{Subject, subject_of, sentences_of, setting_of, atoms_of, frame_of, program_of}
 use Rattle.ps_runs.specs.Subjects.{frame_of, program_of}
-use Rattle.ps_runs.specs.Runs.{Stage, IsStart, IsPool, LeadsToPending, entire, pending, pivots_in}
-use Rattle.ps_runs.proofs.Composed.{pivots_in-append}
+use Rattle.ps_runs.specs.Runs.{Stage, IsStart, IsPool, pivots_in}
 use Rattle.ps_runs.proofs.Starts.{first_table}
 use Rattle.ps_runs.specs.Licences.{IsLicensed}
 use Rattle.ps_runs.specs.Verdicts.{IsSideAt, IsLawfulPhaseOne, AreLawfulBounds, IsLawfulAnswerTo, IsLawfulPart, IsLawfulAnswer, asked_after}
@@ -46,35 +44,24 @@ first_reached s g start =
       zeros = tt;
     }))
 
--- a pending world makes no pivot
-leads_pending : (kind : ClaimKind) (s : Subject) (conflicts : ℕ) (a b : Stage) (events : List Event) (world : Option World) → Reached kind s a 0 → LeadsToPending (program_of kind s) conflicts a events world b → Reached kind s b (pivots_in events)
-leads_pending kind s conflicts a b events world r (entire x y es way) = leads kind s conflicts a b events r way
-leads_pending kind s conflicts a b events world r (pending x y es w way at) =
-    let e : pivots_in es ≡ pivots_in (es ++ Priced w ∷ []) = let f = pivots_in-append es (Priced w ∷ []) in omega (arith, f) in
-    subst (Reached kind s b) e (leads kind s conflicts a b es r way)
-
-none_left : (kind : ClaimKind) (s : Subject) (limits : Limits) (limit left : ℕ) (g : Stage) (world : Option World) → IsLicensed (program_of kind s) limits g left world (Pivots limit) → left ≡ 0
-none_left kind s limits limit left g None h = h.none_left
-none_left kind s limits limit left g (Some w) h = absurd h
-
 -- where a pivot is left, the cause is another
-other_cause : (kind : ClaimKind) (s : Subject) (limits : Limits) (left : ℕ) (g : Stage) (world : Option World) (cause : Cause) → (left ≡ 0 → ⊥) → IsLicensed (program_of kind s) limits g left world cause → IsOtherThanPivots cause
-other_cause kind s limits left g world (Pivots limit) some h = some (none_left kind s limits limit left g world h)
-other_cause kind s limits left g world (Conflicts limit goal steps) some h = tt
-other_cause kind s limits left g world (Wide at) some h = tt
+other_cause : (kind : ClaimKind) (s : Subject) (limits : Limits) (left : ℕ) (g : Stage) (cause : Cause) → (left ≡ 0 → ⊥) → IsLicensed (program_of kind s) limits g left cause → IsOtherThanPivots cause
+other_cause kind s limits left g (Pivots limit) some h = some h.none_left
+other_cause kind s limits left g (Conflicts limit goal steps) some h = tt
+other_cause kind s limits left g (Wide at) some h = tt
 
 verdict_enough : (s : Subject) (limits : Limits) (events : List Event) (v : Verdict) → IsEnough s limits.pivots → IsLawfulPhaseOne (program_of Nothing s) limits v events → IsVerdictNotForPivots v
 verdict_enough s limits events (Consistent m) enough h = tt
 verdict_enough s limits events (Inconsistent d) enough h = tt
 verdict_enough s limits events (Open cause) enough h =
-    let reached = leads_pending Nothing s limits.conflicts h.start h.end events h.pending (first_reached s h.start h.starts) h.leads in
+    let reached = leads Nothing s limits.conflicts h.start h.end events (first_reached s h.start h.starts) h.leads in
     let few = few_made Nothing s h.end (pivots_in events) reached in
     let counted = h.counted in
-    other_cause Nothing s limits h.left h.end h.pending cause (λ left. absurd (omega (arith, enough, few, left, counted))) h.answered
+    other_cause Nothing s limits h.left h.end cause (λ left. absurd (omega (arith, enough, few, left, counted))) h.answered
 
-side_otherwise : (kind : ClaimKind) (s : Subject) (limits : Limits) (left : ℕ) (g : Stage) (world : Option World) (a : SideAnswer) → (left ≡ 0 → ⊥) → IsSideAt (program_of kind s) limits g left world a → IsSideNotForPivots a
-side_otherwise kind s limits left g world (side.Bound value m d) some h = tt
-side_otherwise kind s limits left g world (side.Open cause) some h = other_cause kind s limits left g world cause some h
+side_otherwise : (kind : ClaimKind) (s : Subject) (limits : Limits) (left : ℕ) (g : Stage) (a : SideAnswer) → (left ≡ 0 → ⊥) → IsSideAt (program_of kind s) limits g left a → IsSideNotForPivots a
+side_otherwise kind s limits left g (side.Bound value m d) some h = tt
+side_otherwise kind s limits left g (side.Open cause) some h = other_cause kind s limits left g cause some h
 
 module _ (s : Subject) (limits : Limits) (first lower_events upper_events : List Event) (lower upper : SideAnswer) (enough : IsEnough s limits.pivots) (h : AreLawfulBounds s limits first (lower, lower_events) (upper, upper_events)) where
   after_one : Reached Nothing s h.after_first (pivots_in first)
@@ -87,7 +74,7 @@ module _ (s : Subject) (limits : Limits) (first lower_events upper_events : List
       begins Lower s h.after_first h.table after_one.pool_kept (record { there = is.there; zeros = h.feasible.feasible })
 
   after_least : Reached Lower s h.after_lower (pivots_in lower_events)
-  after_least = leads_pending Lower s limits.conflicts h.after_first h.after_lower lower_events h.least.pending lower_begins h.least.leads
+  after_least = leads Lower s limits.conflicts h.after_first h.after_lower lower_events lower_begins h.least.leads
 
   upper_begins : Reached Upper s h.after_lower 0
   upper_begins =
@@ -95,7 +82,7 @@ module _ (s : Subject) (limits : Limits) (first lower_events upper_events : List
       begins Upper s h.after_lower here.table after_least.pool_kept (record { there = here.is.there; zeros = here.is.zeros })
 
   after_greatest : Reached Upper s h.end (pivots_in upper_events)
-  after_greatest = leads_pending Upper s limits.conflicts h.after_lower h.end upper_events h.greatest.pending upper_begins h.greatest.leads
+  after_greatest = leads Upper s limits.conflicts h.after_lower h.end upper_events upper_begins h.greatest.leads
 
   few_first : pivots_in first < ways_in s
   few_first = few_made Nothing s h.after_first (pivots_in first) after_one
@@ -112,7 +99,7 @@ module _ (s : Subject) (limits : Limits) (first lower_events upper_events : List
       let b : h.left_lower + pivots_in lower_events ≡ h.left_first = h.least.counted in
       let c = few_first in
       let d = few_lower in
-      side_otherwise Lower s limits h.left_lower h.after_lower h.least.pending lower (λ left. absurd (omega (arith, enough, left, a, b, c, d))) h.least.answered
+      side_otherwise Lower s limits h.left_lower h.after_lower lower (λ left. absurd (omega (arith, enough, left, a, b, c, d))) h.least.answered
 
   upper_enough : IsSideNotForPivots upper
   upper_enough =
@@ -122,7 +109,7 @@ module _ (s : Subject) (limits : Limits) (first lower_events upper_events : List
       let d = few_first in
       let f = few_lower in
       let g = few_upper in
-      side_otherwise Upper s limits h.left h.end h.greatest.pending upper (λ left. absurd (omega (arith, enough, left, a, b, c, d, f, g))) h.greatest.answered
+      side_otherwise Upper s limits h.left h.end upper (λ left. absurd (omega (arith, enough, left, a, b, c, d, f, g))) h.greatest.answered
 
 query_enough : (s : Subject) (limits : Limits) (first : List Event) (a : QueryAnswer) → IsEnough s limits.pivots → IsLawfulAnswerTo s limits first a → IsQueryNotForPivots a
 query_enough s limits first (query.Bounds lower lower_events upper upper_events) enough h = (

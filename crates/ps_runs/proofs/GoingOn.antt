@@ -17,7 +17,7 @@ use Rattle.ps_claims.specs.declared.claim_kind.ClaimKind.{ClaimKind}
 use Rattle.ps_runs.specs.Programs.{Program}
 use Rattle.ps_runs.specs.Rows.{phase_of, entries_of}
 use Rattle.ps_runs.specs.Subjects.{Subject, setting_of, atoms_of, frame_of, program_of}
-use Rattle.ps_runs.specs.Runs.{Stage, IsPool, gain_at, IsPricedBy, LeadsTo, still, priced, LeadsToPending, pending}
+use Rattle.ps_runs.specs.Runs.{Stage, IsPool, gain_at, IsPricedBy, LeadsTo, still, priced}
 use Rattle.ps_runs.proofs.Composed.{pivots_in-append, leads_on}
 use Rattle.ps_runs.proofs.Pricing.{priced_is_new}
 use Rattle.ps_runs.specs.Tables.{costs_for, IsRunTable, stage_at, IsUnderWay, standing}
@@ -28,7 +28,7 @@ use Rattle.ps_runs.proofs.Settling.{LedBy, settled_leads}
 -- what `settle` leaves is a table of the run
 pub settled_table : (kind : ClaimKind) (s : Subject) (conflicts : ℕ) (pool : List World) (t u : Tableau) (events : List Event) → IsRunTable (frame_of s) pool t
     → LedBy kind s conflicts pool t events u → IsTableau u → HasNoNegativeValue u → IsRunTable (frame_of s) pool u
-settled_table kind s conflicts pool t u events run led tableau values = record { kinds = led.kinds; worlds = led.worlds; tableau = tableau; stands = led.stands; values = values }
+settled_table kind s conflicts pool t u events run led tableau values = record { kinds = led.kinds; worlds = led.worlds; entries = led.entries ∙ run.entries; tableau = tableau; stands = led.stands; values = values }
 
 module _ (p : Program) (conflicts : ℕ) where
   pub begun : (pool : List World) (t : Tableau) (trace : List Event) (left : ℕ) → IsRunTable p.frame pool t → IsPool p.atoms pool
@@ -41,13 +41,6 @@ module _ (p : Program) (conflicts : ℕ) where
     leads = still (stage_at pool t);
     counted = omega arith;
   }
-
-  -- a world whose column is refused is pending
-  pub priced_pends : (from : Stage) (had : ℕ) (before : List Event) (pool : List World) (t : Tableau) (trace : List Event) (left : ℕ) (w : World)
-      → (way : IsUnderWay p conflicts from had before (standing pool t trace left))
-      → IsPricedBy p conflicts (stage_at pool t) (entry_at t) w
-      → LeadsToPending p conflicts from (way.events ++ Priced w ∷ []) (Some w) (stage_at pool t)
-  priced_pends from had before pool t trace left w way is = pending from (stage_at pool t) way.events w way.leads (record { table = entry_at t; priced = is })
 
 module _ (kind : ClaimKind) (s : Subject) (conflicts : ℕ) where
   pub settled_goes_on : (from : Stage) (had : ℕ) (before : List Event) (pool : List World) (t u : Tableau) (trace longer : List Event) (left now : ℕ)

@@ -1,5 +1,5 @@
 -- Each stage to which a run comes has one table, and a pool in which no world stands twice.
-use Rattle.std.proofs.Common.{◌≡◌, ◌≢◌, ℕ, zero, suc, ◌-◌, ◌<◌, pos, ◌≤ℤ◌, Option, None, Some, List, [], ◌∷◌, ◌++◌, length, get_or, cond, eqb, eq-eqb, refl, sym, ap, ◌∙◌, subst, arith, inl, inr}
+use Rattle.std.proofs.Common.{◌≡◌, ◌≢◌, ℕ, zero, suc, ◌-◌, ◌<◌, pos, ◌≤ℤ◌, None, Some, List, [], ◌∷◌, ◌++◌, length, get_or, cond, eqb, eq-eqb, refl, sym, ap, ◌∙◌, subst, arith, inl, inr}
 use Rattle.std.proofs.lemmas.Bool.{ne_eqb, cases_eq}
 use Rattle.std.proofs.lemmas.List.{get_or_default}
 use Rattle.std.proofs.lemmas.List.Elements.{All-nil, All-append, All-cons}
@@ -26,7 +26,6 @@ use Rattle.ps_claims.specs.declared.claim_kind.ClaimKind.{ClaimKind}
 use Rattle.ps_runs.specs.Rows.{Setting, phase_of, rows_of, width_of, columns_of, IsTable}
 use Rattle.ps_runs.specs.Subjects.{Subject, setting_of, atoms_of, frame_of, program_of}
 use Rattle.ps_runs.specs.Runs.{Stage, IsPool, table_at, gain_at, BelongsTo, IsPricedAt, LeadsTo, still, pivoted, priced}
-use Rattle.ps_runs.specs.Runs.{LeadsToPending, entire, pending}
 use Rattle.ps_runs.specs.Reached.{IsReached, started, led, HasOneTable}
 use Rattle.ps_runs.proofs.Columns.{has_homes}
 use Rattle.ps_runs.proofs.Starts.{first_table, stands_same, more_worlds, longer}
@@ -49,10 +48,14 @@ leaving_row phase.One t q p h = record { row = h.rising.within; entry = above_no
 leaving_row phase.Lower t q p h = leaves_in_phase_two t q p h
 leaving_row phase.Upper t q p h = leaves_in_phase_two t q p h
 
-is_pivoted : (n w p q : ℕ) (X : ℕ → ℕ → Rational) → Pivoted n w p q X (pivot_cell X p q)
+-- a table after a pivot in row p and column q
+abbrev pivoted_in : ℕ → ℕ → (ℕ → ℕ → Rational) → ℕ → ℕ → Rational
+pivoted_in p q X = pivot_cell X (λ i. X i q) p
+
+is_pivoted : (n w p q : ℕ) (X : ℕ → ℕ → Rational) → Pivoted n w p q X (pivoted_in p q X)
 is_pivoted n w p q X = record {
-  row = λ j l. pivot_own X p q j;
-  others = λ i j h l ne. pivot_other X p q i j ne ∙ ap (λ k. sub (X i j) (mul (X i q) k)) (sym (pivot_own X p q j));
+  row = λ j l. pivot_own X (λ i. X i q) p j;
+  others = λ i j h l ne. pivot_other X (λ i. X i q) p i j ne ∙ ap (λ k. sub (X i j) (mul (X i q) k)) (sym (pivot_own X (λ i. X i q) p j));
 }
 
 basis_kept : (n w p q : ℕ) (x y : ℕ → ℕ) → IsBasis n w x → q < w → Based n p q x y → IsBasis n w y
@@ -110,9 +113,9 @@ module _ (kind : ClaimKind) (s : Subject) (conflicts : ℕ) where
       let same : h.table p q ≡ X p q = tables.one_table n w A h.table X g.basis (omega arith) h.basis h.stands belongs p q leaving.row column in
       record {
         basis = basis_kept n w p q g.basis basis h.basis column based;
-        table = pivot_cell h.table p q;
+        table = pivoted_in p q h.table;
         stands =
-            stands_kept n w p q A h.table (pivot_cell h.table p q) g.basis basis (omega arith) h.basis leaving.row column (λ e. leaving.entry (sym same ∙ e))
+            stands_kept n w p q A h.table (pivoted_in p q h.table) g.basis basis (omega arith) h.basis leaving.row column (λ e. leaving.entry (sym same ∙ e))
             (is_pivoted n w p q h.table) based h.stands;
       }
 
@@ -124,14 +127,9 @@ module _ (kind : ClaimKind) (s : Subject) (conflicts : ℕ) where
       (leaving_row (phase_of kind) (table_at (frame_of s) m is.lawful.table) q leave is.lawful.leaves) based (stands_on a m es h leads)
   stands_on a b events h (priced x m es world leads is) = wider_stands (setting_of s) m.pool m.basis world (stands_on a m es h leads)
 
-  stands_on_pending : (a b : Stage) (events : List Event) (world : Option World) → Stands (setting_of s) a.pool a.basis
-      → LeadsToPending (program_of kind s) conflicts a events world b → Stands (setting_of s) b.pool b.basis
-  stands_on_pending a b events world h (entire x y es leads) = stands_on a b es h leads
-  stands_on_pending a b events world h (pending x y es w leads is) = stands_on a b es h leads
-
 reached_stands : (s : Subject) (conflicts : ℕ) (g : Stage) → IsReached s conflicts g → Stands (setting_of s) g.pool g.basis
 reached_stands s conflicts g (started x start) = first_stands (setting_of s) g.pool g.basis start.pool start.homes
-reached_stands s conflicts g (led kind a b events world before leads) = stands_on_pending kind s conflicts a g events world (reached_stands s conflicts a before) leads
+reached_stands s conflicts g (led kind a b events before leads) = stands_on kind s conflicts a g events (reached_stands s conflicts a before) leads
 
 module _ (s : Subject) (conflicts : ℕ) (g : Stage) (reached : IsReached s conflicts g) where
   pub one_table : HasOneTable s g
@@ -181,14 +179,9 @@ pool_on : (kind : ClaimKind) (s : Subject) (conflicts : ℕ) (a b : Stage) (even
 pool_on kind s conflicts a b events reached h (still x) = h
 pool_on kind s conflicts a b events reached h (pivoted x m es enter leave basis leads is based) = pool_on kind s conflicts a m es reached h leads
 pool_on kind s conflicts a b events reached h (priced x m es world leads is) =
-    let there : IsReached s conflicts m = led kind a m es None reached (entire a m es leads) in
+    let there : IsReached s conflicts m = led kind a m es reached leads in
     pool_grows s m.pool world (pool_on kind s conflicts a m es reached h leads) is.priced.sized (λ k l e. priced_elsewhere s conflicts m there kind world k is l e)
-
-pool_on_pending : (kind : ClaimKind) (s : Subject) (conflicts : ℕ) (a b : Stage) (events : List Event) (world : Option World) → IsReached s conflicts a → IsPool (atoms_of s) a.pool
-    → LeadsToPending (program_of kind s) conflicts a events world b → IsPool (atoms_of s) b.pool
-pool_on_pending kind s conflicts a b events world reached h (entire x y es leads) = pool_on kind s conflicts a b es reached h leads
-pool_on_pending kind s conflicts a b events world reached h (pending x y es w leads is) = pool_on kind s conflicts a b es reached h leads
 
 pub reached_pool : (s : Subject) (conflicts : ℕ) (g : Stage) → IsReached s conflicts g → IsPool (atoms_of s) g.pool
 reached_pool s conflicts g (started x start) = subst (IsPool (atoms_of s)) (sym start.pool) (record { different = λ i j d l k. absurd (omega (arith, k)); sized = All-nil (λ (v : World). length v ≡ atoms_of s) })
-reached_pool s conflicts g (led kind a b events world before leads) = pool_on_pending kind s conflicts a g events world before (reached_pool s conflicts a before) leads
+reached_pool s conflicts g (led kind a b events before leads) = pool_on kind s conflicts a g events before (reached_pool s conflicts a before) leads

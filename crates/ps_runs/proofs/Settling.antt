@@ -42,10 +42,11 @@ module _ (kind : ClaimKind) (s : Subject) (pool : List World) (t : Tableau) (kin
         lawful = record { table = entry_at t; belongs = there.belongs; unfinished = by_table.0; enters = by_table.1; leaves = by_table.2 };
       }
 
--- a run of `settle` keeps rows and worlds, stands for what it stood for, and leads on
+-- a run of `settle` keeps rows, worlds and their entries, stands for what it stood for, and leads on
 pub record LedBy (kind : ClaimKind) (s : Subject) (conflicts : ℕ) (pool : List World) (t : Tableau) (events : List Event) (u : Tableau) : Type 0 where
   pub kinds : u.kinds ≡ homes_of (setting_of s)
   pub worlds : u.worlds ≡ length pool
+  pub entries : u.entries ≡ t.entries
   pub stands : IsTableFor (columns_of (setting_of s) pool) u
   pub leads : LeadsTo (program_of kind s) conflicts (stage_at pool t) events (stage_at pool u)
   pub counted : pivots_in events ≡ length events
@@ -55,13 +56,14 @@ pub settled_leads : (kind : ClaimKind) (s : Subject) (conflicts : ℕ) (pool : L
     → bland.Run (phase_of kind) (costs_for kind (setting_of s) pool) t events u
     → LedBy kind s conflicts pool t events u
 settled_leads kind s conflicts pool t events u kinds worlds stands (bland.still x) =
-    record { kinds = kinds; worlds = worlds; stands = stands; leads = still (stage_at pool t); counted = refl }
+    record { kinds = kinds; worlds = worlds; entries = refl; stands = stands; leads = still (stage_at pool t); counted = refl }
 settled_leads kind s conflicts pool t events u kinds worlds stands (bland.more x m y es enter leave run lawful pivot on) =
     let before : LedBy kind s conflicts pool t es m = settled_leads kind s conflicts pool t es m kinds worlds stands run in
     let rows = rows_are (setting_of s) pool m before.kinds before.worlds in
     record {
       kinds = pivot.kinds ∙ before.kinds;
       worlds = pivot.worlds ∙ before.worlds;
+      entries = pivot.entries ∙ before.entries;
       stands = on (columns_of (setting_of s) pool) before.stands;
       leads =
           pivoted (stage_at pool t) (stage_at pool m) es enter leave (basic_at u) before.leads

@@ -1,20 +1,18 @@
 -- When a part may be open: the pivots are used up, a search was spent, or a number is too wide at a place that is due.
-use Rattle.std.specs.Prelude.{◌≡◌, ℕ, ◌<◌, pos, Option, Some, None, List, length}
-use Rattle.ps_meaning.specs.Formula.{World}
+use Rattle.std.specs.Prelude.{◌≡◌, ℕ, pos, List, length}
 use Rattle.ps_meaning.specs.Rational.{Rational}
 use Rattle.ps_simplex.specs.declared.phase.Phase.TheVariants.{One, Lower, Upper}
 use Rattle.ps_pb.specs.Constraints.{Constraint}
 use Rattle.ps_pb.specs.Steps.{Step}
-use Rattle.ps_table.specs.declared.col.Col.TheVariants.{Home}
 use Rattle.ps_table.specs.declared.place.WideAt.{WideAt}
-use Rattle.ps_table.specs.Places.{Operation, CostPlace, MultiplierPlace, WeightPlace, NewPlace, IsWideAt}
+use Rattle.ps_table.specs.Places.{Operation, MultiplierPlace, WeightPlace, IsWideAt}
 use Rattle.ps_bland.specs.DuePlaces.{DuePlace}
 use Rattle.ps_answer.specs.declared.answer.Cause.{Cause}
 use Rattle.ps_answer.specs.declared.answer.Cause.TheVariants.{Pivots, Conflicts, Wide}
 use Rattle.ps_runs.specs.declared.limits.Limits.{Limits}
 use Rattle.ps_runs.specs.Searches.{IsSpentSearch}
-use Rattle.ps_runs.specs.Programs.{Frame, Program, goal_at_least}
-use Rattle.ps_runs.specs.Runs.{Stage, table_at, dual_at}
+use Rattle.ps_runs.specs.Programs.{Program, goal_at_least}
+use Rattle.ps_runs.specs.Runs.{Stage, table_at, entries_at, dual_at}
 use Rattle.ps_runs.specs.Runs.{BelongsTo, IsMovingAt, IsRestingAt, IsFeasibleAt, AreAtMost}
 
 -- a model is due: phase one is due to end, or a side rests and no world is priced above 0
@@ -25,13 +23,12 @@ IsModelDue p g X = elim p.phase [
   | Upper ↦ IsRestingAt p g X × AreAtMost p g X (pos 0)
 ]
 
--- an operation is due at its place in a table: for the pivots, of which so many are left; at rest, for the multiplier of a
--- row and for the whole multiples of the multipliers; where a model is due, for its weights
+-- an operation is due at its place in a table: for the pivots, of which so many are left; at rest, for the whole multiples of
+-- the multipliers; where a model is due, for its weights
 pub data DueAt (p : Program) (g : Stage) (left : ℕ) (X : ℕ → ℕ → Rational) : Operation → Type 0 where
   for_pivots : (o : Operation)
-      → DuePlace p.phase (table_at p.frame g X) (length g.pool) left (p.cost g.pool) o → DueAt p g left X o
-  for_multiplier : (i : ℕ) (o : Operation) → IsRestingAt p g X → i < p.frame.rows
-      → CostPlace p.frame.rows (p.cost g.pool) g.basis X (Home i) o → DueAt p g left X o
+      → DuePlace p.phase (table_at p.frame g X) (length g.pool) (entries_at p.frame g) left (p.cost g.pool) o
+      → DueAt p g left X o
   for_dual : (o : Operation) → IsRestingAt p g X
       → MultiplierPlace p.frame.rows (p.cost g.pool) g.basis X o → DueAt p g left X o
   for_model : (o : Operation) → IsModelDue p g X → WeightPlace p.frame.rows g.basis X o → DueAt p g left X o
@@ -57,17 +54,8 @@ pub record IsTooWide (p : Program) (g : Stage) (left : ℕ) (at : WideAt) : Type
   pub belongs : BelongsTo p.frame g table
   pub wide : IsWideAt (DueAt p g left table) at
 
--- an operation for the column of a world is too wide
-pub record IsColumnTooWide (f : Frame) (g : Stage) (world : World) (at : WideAt) : Type 0 where
-  pub table : ℕ → ℕ → Rational
-  pub belongs : BelongsTo f g table
-  pub wide : IsWideAt (NewPlace f.rows table (f.entries world)) at
-
--- why a phase may be open at a stage, with so many pivots left, and perhaps a pending world
-abbrev pub IsLicensed : Program → Limits → Stage → ℕ → Option World → Cause → Type 0
-IsLicensed p limits g left None (Pivots limit) = IsOutOfPivots p limits.pivots g left limit
-IsLicensed p limits g left None (Conflicts limit goal steps) = IsOutOfConflicts p limits.conflicts g limit goal steps
-IsLicensed p limits g left None (Wide at) = IsTooWide p g left at
-IsLicensed p limits g left (Some world) (Pivots limit) = ⊥
-IsLicensed p limits g left (Some world) (Conflicts limit goal steps) = ⊥
-IsLicensed p limits g left (Some world) (Wide at) = IsColumnTooWide p.frame g world at
+-- why a phase may be open at a stage, with so many pivots left
+abbrev pub IsLicensed : Program → Limits → Stage → ℕ → Cause → Type 0
+IsLicensed p limits g left (Pivots limit) = IsOutOfPivots p limits.pivots g left limit
+IsLicensed p limits g left (Conflicts limit goal steps) = IsOutOfConflicts p limits.conflicts g limit goal steps
+IsLicensed p limits g left (Wide at) = IsTooWide p g left at

@@ -1,5 +1,5 @@
 -- Laws of runs over the solver's tables.
-use Rattle.std.specs.Prelude.{◌≡◌, ℕ, ◌+◌, ◌<◌, pos, Some, None, List, [], ◌∷◌, ◌++◌, length, map}
+use Rattle.std.specs.Prelude.{◌≡◌, ℕ, ◌+◌, ◌<◌, pos, List, [], ◌∷◌, ◌++◌, length, map}
 use Rattle.ps_meaning.specs.Formula.{World}
 use Rattle.ps_meaning.specs.Rational.{Rational}
 use Rattle.ps_meaning.specs.Sums.{int_sum_to}
@@ -18,18 +18,15 @@ use Rattle.ps_table.specs.declared.place.WideAt.{WideAt}
 use Rattle.ps_table.specs.Tableau.{Tableau, IsTableau, IsAdded, ExtendsSystem, IsTableForHomes}
 use Rattle.ps_table.specs.Tableau.{HasUnitHomes, HasBasicHomes, rows_of as table_rows, entry_at, basic_at}
 use Rattle.ps_table.specs.Pricing.{cost_at}
-use Rattle.ps_table.specs.Places.{MultiplierPlace, WeightPlace, weight_at, IsWideAt, HomePlaces, NewPlaces}
+use Rattle.ps_table.specs.Places.{MultiplierPlace, WeightPlace, weight_at, IsWideAt, HomePlaces}
 use Rattle.ps_bland.specs.Rules.{simplex_of, IsDueToEndIn}
 use Rattle.ps_bland.specs.Ends.{IsDueWide}
 use Rattle.ps_bland.specs.Ready.{HasNoNegativeValue, IsReady}
 use Rattle.ps_bland.specs.Runs as bland
-use Rattle.ps_answer.specs.declared.answer.Cause.TheVariants.{Wide}
 use Rattle.ps_answer.specs.declared.answer.Answer.{Answer}
 use Rattle.ps_answer.specs.Answers.{IsAnswerCounted}
 use Rattle.ps_answer.specs.declared.answer.SideAnswer.{SideAnswer}
-use Rattle.ps_answer.specs.declared.answer.SideAnswer.TheVariants as side
 use Rattle.ps_answer.specs.declared.answer.Verdict.{Verdict}
-use Rattle.ps_answer.specs.declared.answer.Verdict.TheVariants.{Open}
 use Rattle.ps_claims.specs.declared.claim_kind.ClaimKind.{ClaimKind}
 use Rattle.ps_claims.specs.declared.claim_kind.ClaimKind.TheVariants.{Nothing, Lower, Upper}
 use Rattle.ps_claims.specs.Answers as claimed
@@ -45,10 +42,10 @@ use Rattle.ps_runs.specs.Subjects.{Subject, setting_of, given_in, both_in, IsAsk
 use Rattle.ps_runs.specs.Subjects.{program_of}
 use Rattle.ps_runs.specs.Subjects.{frame_over, frame_of, program_of}
 use Rattle.ps_runs.specs.Runs.{Stage, table_at, dual_at, IsStart, IsPool, IsMovingAt, IsRestingAt, IsFeasibleAt}
-use Rattle.ps_runs.specs.Runs.{IsPricedBy, LeadsToPending}
+use Rattle.ps_runs.specs.Runs.{IsPricedBy}
 use Rattle.ps_runs.specs.Rows.{homes_of}
 use Rattle.ps_runs.specs.Tables.{costs_for, IsRunTable, stage_at, IsUnderWay, standing}
-use Rattle.ps_runs.specs.Licences.{IsModelDue, IsOutOfConflicts, IsTooWide, IsColumnTooWide}
+use Rattle.ps_runs.specs.Licences.{IsModelDue, IsOutOfConflicts, IsTooWide}
 use Rattle.ps_runs.specs.Verdicts.{IsVerdictAt, IsLawfulPhaseOne, IsLawfulVerdict, IsSideAt, IsLawfulSide, IsLawfulAnswer}
 
 -- a new table of the homes is one of the run, at its start
@@ -73,8 +70,8 @@ pub record RunTablesAreReady : Type 0 where
   pub upper : (s : Setting) (pool : List World) (t : Tableau) → IsRunTable (frame_over s) pool t → IsFeasible (simplex_of t)
       → IsReady (phase_of Upper) (costs_for Upper s pool) t
 
--- a phase begins at any table of the run, goes on by the pivots of `settle` and by a world that is priced, which isn't in the
--- pool, and has a pending world where its column is refused
+-- a phase begins at any table of the run, and goes on by the pivots of `settle` and by a world that is priced, which isn't in the
+-- pool
 pub record PhasesGoOn : Type 0 where
   pub begun : (p : Program) (conflicts : ℕ) (pool : List World) (t : Tableau) (trace : List Event) (left : ℕ)
       → IsRunTable p.frame pool t → IsPool p.atoms pool
@@ -95,11 +92,6 @@ pub record PhasesGoOn : Type 0 where
       → IsPricedBy (program_of kind s) conflicts (stage_at pool t) (entry_at t) w
       → IsAdded (entries_of (setting_of s) w) t u → ExtendsSystem (entries_of (setting_of s) w) t u → IsTableau u
       → IsUnderWay (program_of kind s) conflicts from had before (standing (pool ++ w ∷ []) u (trace ++ Priced w ∷ []) left)
-  pub pends : (p : Program) (conflicts : ℕ) (from : Stage) (had : ℕ) (before : List Event) (pool : List World)
-      (t : Tableau) (trace : List Event) (left : ℕ) (w : World)
-      (way : IsUnderWay p conflicts from had before (standing pool t trace left))
-      → IsPricedBy p conflicts (stage_at pool t) (entry_at t) w
-      → LeadsToPending p conflicts from (way.events ++ Priced w ∷ []) (Some w) (stage_at pool t)
 
 -- once the column of a priced world is there the table is moving, so that fewer pivots are left where it ends otherwise
 pub record PricedWorldsTakePivots : Type 0 where
@@ -128,7 +120,7 @@ pub record SettledStages : Type 0 where
       → IsMovingAt (program_of kind s) (stage_at pool t)
 
 -- a number that is too wide at a place of a run's table is so at a due place: in `settle`; at rest in the multiplier of a row and
--- in the whole multiples of the multipliers; in the weights of a model that is due; and in the column of a world
+-- in the whole multiples of the multipliers; and in the weights of a model that is due
 pub record RefusalsAreLicensed : Type 0 where
   pub settling : (s : Subject) (pool : List World) (t : Tableau) → IsRunTable (frame_of s) pool t
       → (kind : ClaimKind) (left : ℕ) (w : WideAt)
@@ -149,35 +141,21 @@ pub record RefusalsAreLicensed : Type 0 where
       → IsModelDue (program_of kind s) (stage_at pool t) (entry_at t)
       → IsWideAt (WeightPlace (table_rows t) (basic_at t) (entry_at t)) w
       → IsTooWide (program_of kind s) (stage_at pool t) left w
-  pub column : (s : Subject) (pool : List World) (t : Tableau) → IsRunTable (frame_of s) pool t → (world : World) (w : WideAt)
-      → IsWideAt (NewPlaces t (entries_of (setting_of s) world)) w → IsColumnTooWide (frame_of s) (stage_at pool t) world w
 
--- where phase one is under way from the start, an answer that is due there is lawful, and so is one that a pending
--- world leaves open
-pub record PhaseOneEndsLawfully : Type 0 where
-  pub ended : (p : Program) (limits : Limits) (from : Stage) (pool : List World) (t : Tableau)
-      (trace : List Event) (left : ℕ)
-      → IsStart p.frame from → IsUnderWay p limits.conflicts from limits.pivots [] (standing pool t trace left)
-      → (answer : Verdict) → IsVerdictAt p limits (stage_at pool t) left None answer
-      → IsLawfulPhaseOne p limits answer trace
-  pub pending : (p : Program) (limits : Limits) (from : Stage) (pool : List World) (t : Tableau)
-      (trace : List Event) (left : ℕ)
-      → IsStart p.frame from → IsUnderWay p limits.conflicts from limits.pivots [] (standing pool t trace left)
-      → (w : World) (at : WideAt) → IsPricedBy p limits.conflicts (stage_at pool t) (entry_at t) w
-      → IsColumnTooWide p.frame (stage_at pool t) w at
-      → IsLawfulPhaseOne p limits (Open (Wide at)) (trace ++ Priced w ∷ [])
+-- where phase one is under way from the start, an answer that is due there is lawful
+abbrev pub PhaseOneEndsLawfully : Type 0
+PhaseOneEndsLawfully = (p : Program) (limits : Limits) (from : Stage) (pool : List World) (t : Tableau)
+    (trace : List Event) (left : ℕ)
+    → IsStart p.frame from → IsUnderWay p limits.conflicts from limits.pivots [] (standing pool t trace left)
+    → (answer : Verdict) → IsVerdictAt p limits (stage_at pool t) left answer
+    → IsLawfulPhaseOne p limits answer trace
 
--- where a side is under way, an answer that is due there is lawful, and so is one that a pending world leaves open
-pub record SidesEndLawfully : Type 0 where
-  pub ended : (p : Program) (limits : Limits) (from : Stage) (had : ℕ) (pool : List World) (t : Tableau)
-      (trace : List Event) (left : ℕ) → IsUnderWay p limits.conflicts from had [] (standing pool t trace left)
-      → (answer : SideAnswer) → IsSideAt p limits (stage_at pool t) left None answer
-      → IsLawfulSide p limits (from, had) (stage_at pool t, left) (answer, trace)
-  pub pending : (p : Program) (limits : Limits) (from : Stage) (had : ℕ) (pool : List World) (t : Tableau)
-      (trace : List Event) (left : ℕ) → IsUnderWay p limits.conflicts from had [] (standing pool t trace left)
-      → (w : World) (at : WideAt) → IsPricedBy p limits.conflicts (stage_at pool t) (entry_at t) w
-      → IsColumnTooWide p.frame (stage_at pool t) w at
-      → IsLawfulSide p limits (from, had) (stage_at pool t, left) (side.Open (Wide at), trace ++ Priced w ∷ [])
+-- where a side is under way, an answer that is due there is lawful
+abbrev pub SidesEndLawfully : Type 0
+SidesEndLawfully = (p : Program) (limits : Limits) (from : Stage) (had : ℕ) (pool : List World) (t : Tableau)
+    (trace : List Event) (left : ℕ) → IsUnderWay p limits.conflicts from had [] (standing pool t trace left)
+    → (answer : SideAnswer) → IsSideAt p limits (stage_at pool t) left answer
+    → IsLawfulSide p limits (from, had) (stage_at pool t, left) (answer, trace)
 
 -- the costs over a pool with one world more are those over the pool, and behind them the world's
 abbrev pub CostsGrow : Type 0

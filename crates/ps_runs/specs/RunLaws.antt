@@ -29,7 +29,7 @@ use Rattle.ps_runs.specs.Programs.{Program, goal_at_least, RefutesGain}
 use Rattle.ps_runs.specs.Subjects.{Subject, subject_of, setting_of, given_in, both_in, IsAsked, atoms_of}
 use Rattle.ps_runs.specs.Subjects.{combination_over, frame_of, program_of}
 use Rattle.ps_runs.specs.Runs.{Stage, IsPool, table_at, dual_at, AreAtMost, IsRestingAt, IsPricedBy, IsDualAt}
-use Rattle.ps_runs.specs.Runs.{LeadsTo, LeadsToPending, pivots_in}
+use Rattle.ps_runs.specs.Runs.{LeadsTo, pivots_in}
 use Rattle.ps_runs.specs.Reached.{IsReached, HasOneTable, ArePricedFresh}
 use Rattle.ps_runs.specs.Kept.{kept_of, flags_of, kept_parts, kept_dual, IsChoice, AreAllKept}
 use Rattle.ps_runs.specs.Certificates.{HaveSameNumbers, table_dual, combination_at, multiple_of, price, value_of}
@@ -110,13 +110,10 @@ pub record PricedWorldsMove : Type 0 where
       → pos 1 ≤ℤ combination_at kind s (table_of s pool basic X) (cost_of kind s pool) w
       → IsMoving (phase_of kind) (table_of s (pool ++ w ∷ []) basic Z) (cost_of kind s (pool ++ w ∷ []))
 
--- events that follow lawful ones lead on, also to a pending world, and their pivots sum
+-- events that follow lawful ones lead on, and their pivots sum
 pub record EventsCompose : Type 0 where
   pub leads : (p : Program) (conflicts : ℕ) (a b c : Stage) (before after : List Event)
       → LeadsTo p conflicts a before b → LeadsTo p conflicts b after c → LeadsTo p conflicts a (before ++ after) c
-  pub pending : (p : Program) (conflicts : ℕ) (a b c : Stage) (before after : List Event) (world : Option World)
-      → LeadsTo p conflicts a before b → LeadsToPending p conflicts b after world c
-      → LeadsToPending p conflicts a (before ++ after) world c
   pub pivots : (before after : List Event) → pivots_in (before ++ after) ≡ pivots_in before + pivots_in after
 
 -- each stage to which lawful events lead from a start has one table; in its pool no world stands twice, and what is priced there

@@ -1,6 +1,6 @@
 -- Lawful runs of a linear program: pivots by the rule at moving tables, and worlds that are priced at resting ones.
-use Rattle.std.specs.Prelude.{Option, Some, None, ◌≡◌, ◌⊎◌, ℕ, suc, ◌+◌, ◌<◌, ℤ, pos}
-use Rattle.std.specs.Prelude.{◌≤ℤ◌, ◌<ℤ◌, List, [], ◌∷◌, ◌++◌, length, All}
+use Rattle.std.specs.Prelude.{◌≡◌, ◌⊎◌, ℕ, suc, ◌+◌, ◌-◌, ◌<◌, ℤ, pos}
+use Rattle.std.specs.Prelude.{◌≤ℤ◌, ◌<ℤ◌, List, [], ◌∷◌, ◌++◌, get_or, length, map, All}
 use Rattle.ps_meaning.specs.Rational.{Rational}
 use Rattle.ps_meaning.specs.Formula.{World}
 use Rattle.ps_simplex.specs.Table.{Belongs, Based}
@@ -37,6 +37,10 @@ pub record IsPool (atoms : ℕ) (pool : List World) : Type 0 where
 -- a table as the rule sees it at the stage
 abbrev pub table_at : Frame → Stage → (ℕ → ℕ → Rational) → SimplexTable
 table_at f g X = simplex_table (f.system g.pool) (suc (f.rows + length g.pool)) g.basis X
+
+-- the entries of a world of the stage's pool, by its number from 1
+abbrev pub entries_at : Frame → Stage → ℕ → List ℤ
+entries_at f g k = get_or (map f.entries g.pool) (k - 1) []
 
 -- the dual of a table at the stage
 abbrev pub dual_at : Program → Stage → (ℕ → ℕ → Rational) → Dual
@@ -111,14 +115,6 @@ pub data LeadsTo (p : Program) (conflicts : ℕ) : Stage → List Event → Stag
   priced : (a b : Stage) (events : List Event) (world : World) → LeadsTo p conflicts a events b
       → IsPricedAt p conflicts b world
       → LeadsTo p conflicts a (events ++ Priced world ∷ []) (record { pool = b.pool ++ world ∷ []; basis = b.basis })
-
--- the same, where a world that was priced last may be pending: it got no column
-pub data LeadsToPending (p : Program) (conflicts : ℕ) : Stage → List Event → Option World → Stage → Type 0 where
-  entire : (a b : Stage) (events : List Event) → LeadsTo p conflicts a events b
-      → LeadsToPending p conflicts a events None b
-  pending : (a b : Stage) (events : List Event) (world : World) → LeadsTo p conflicts a events b
-      → IsPricedAt p conflicts b world
-      → LeadsToPending p conflicts a (events ++ Priced world ∷ []) (Some world) b
 
 -- the number of pivots among events
 abbrev pub pivots_in : List Event → ℕ

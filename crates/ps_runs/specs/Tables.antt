@@ -19,6 +19,7 @@ costs_for kind s pool = record { homes = map (home_cost kind) (artificial_rows s
 pub record IsRunTable (f : Frame) (pool : List World) (t : Tableau) : Type 0 where
   pub kinds : t.kinds ≡ f.homes
   pub worlds : t.worlds ≡ length pool
+  pub entries : t.entries ≡ map f.entries pool
   pub tableau : IsTableau t
   pub stands : IsTableFor (f.system pool).columns t
   pub values : HasNoNegativeValue t

@@ -1,7 +1,6 @@
 -- Lawful answers: what is answered is what the events of its runs lead to, within the limits of pivots and conflicts.
-use Rattle.std.specs.Prelude.{◌≡◌, ℕ, ◌+◌, Option, None, List, []}
+use Rattle.std.specs.Prelude.{◌≡◌, ℕ, ◌+◌, List, []}
 use Rattle.std.specs.List.{AllZip}
-use Rattle.ps_meaning.specs.Formula.{World}
 use Rattle.ps_meaning.specs.Rational.{Rational}
 use Rattle.ps_problem.specs.declared.query.Query.{Query}
 use Rattle.ps_problem.specs.Problems.{Parts}
@@ -19,16 +18,15 @@ use Rattle.ps_claims.specs.Duals.{HasValueHead}
 use Rattle.ps_runs.specs.declared.limits.Limits.{Limits}
 use Rattle.ps_runs.specs.Programs.{Program}
 use Rattle.ps_runs.specs.Subjects.{Subject, subject_of, sentences_of, frame_of, program_of}
-use Rattle.ps_runs.specs.Runs.{Stage, IsStart, LeadsTo}
-use Rattle.ps_runs.specs.Runs.{LeadsToPending, pivots_in, IsFeasibleAt, IsModelAt, IsDualAt}
+use Rattle.ps_runs.specs.Runs.{Stage, IsStart, LeadsTo, pivots_in, IsFeasibleAt, IsModelAt, IsDualAt}
 use Rattle.ps_claims.specs.Certificates.{model_of, dual_of}
 use Rattle.ps_runs.specs.Licences.{IsLicensed}
 
 -- what phase one answers at a stage
-abbrev pub IsVerdictAt : Program → Limits → Stage → ℕ → Option World → Verdict → Type 0
-IsVerdictAt p limits g left pending (Consistent m) = (pending ≡ None) × IsModelAt p.frame g (model_of m)
-IsVerdictAt p limits g left pending (Inconsistent d) = (pending ≡ None) × IsDualAt p g (dual_of d)
-IsVerdictAt p limits g left pending (Open cause) = IsLicensed p limits g left pending cause
+abbrev pub IsVerdictAt : Program → Limits → Stage → ℕ → Verdict → Type 0
+IsVerdictAt p limits g left (Consistent m) = IsModelAt p.frame g (model_of m)
+IsVerdictAt p limits g left (Inconsistent d) = IsDualAt p g (dual_of d)
+IsVerdictAt p limits g left (Open cause) = IsLicensed p limits g left cause
 
 -- the events of phase one lead from the homes, within the limit of pivots, to where this is its answer
 pub record IsLawfulPhaseOne (p : Program) (limits : Limits) (answer : Verdict) (events : List Event) : Type 0 where
@@ -36,28 +34,26 @@ pub record IsLawfulPhaseOne (p : Program) (limits : Limits) (answer : Verdict) (
   pub starts : IsStart p.frame start
   pub end : Stage
   pub left : ℕ
-  pub pending : Option World
-  pub leads : LeadsToPending p limits.conflicts start events pending end
+  pub leads : LeadsTo p limits.conflicts start events end
   pub counted : left + pivots_in events ≡ limits.pivots
-  pub answered : IsVerdictAt p limits end left pending answer
+  pub answered : IsVerdictAt p limits end left answer
 
 -- the verdict on a problem's sentences is that of a run without a query
 abbrev pub IsLawfulVerdict : Parts → Limits → Verdict → List Event → Type 0
 IsLawfulVerdict p limits verdict events = IsLawfulPhaseOne (program_of Nothing (sentences_of p)) limits verdict events
 
 -- what a side answers at a stage
-abbrev pub IsSideAt : Program → Limits → Stage → ℕ → Option World → SideAnswer → Type 0
-IsSideAt p limits g left pending (side.Bound value m d) =
-    (pending ≡ None) × IsModelAt p.frame g (model_of m) × IsDualAt p g (dual_of d) × HasValueHead value (dual_of d)
-IsSideAt p limits g left pending (side.Open cause) = IsLicensed p limits g left pending cause
+abbrev pub IsSideAt : Program → Limits → Stage → ℕ → SideAnswer → Type 0
+IsSideAt p limits g left (side.Bound value m d) =
+    IsModelAt p.frame g (model_of m) × IsDualAt p g (dual_of d) × HasValueHead value (dual_of d)
+IsSideAt p limits g left (side.Open cause) = IsLicensed p limits g left cause
 
 -- the events of a side lead from one stage, with so many pivots left, to another where this is its answer: a stage goes with
 -- the pivots that are left there, and the answer with its events
 pub record IsLawfulSide (p : Program) (limits : Limits) (from to : Stage × ℕ) (a : SideAnswer × List Event) : Type 0 where
-  pub pending : Option World
-  pub leads : LeadsToPending p limits.conflicts from.0 a.1 pending to.0
+  pub leads : LeadsTo p limits.conflicts from.0 a.1 to.0
   pub counted : to.1 + pivots_in a.1 ≡ from.1
-  pub answered : IsSideAt p limits to.0 to.1 pending a.0
+  pub answered : IsSideAt p limits to.0 to.1 a.0
 
 -- phase one is over at a feasible table, and both sides, each with its events, go on from there, the upper one from where the
 -- lower one ended

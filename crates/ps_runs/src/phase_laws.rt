@@ -17,8 +17,7 @@ pub fn run_tables()
 {}
 
 /// A phase goes on by the pivots of `settle`, and by a world that is priced: this isn't in the
-/// pool. Where its column is refused the world is pending; else a pivot follows, unless none is
-/// left or a number is too wide.
+/// pool, and a pivot follows, unless none is left or a number is too wide.
 pub fn phases_go_on()
     ensures go_on { PhasesGoOn }
     ensures pivots { PricedWorldsTakePivots }

@@ -2,6 +2,7 @@
 
 mod carrying;
 mod refusals;
+mod sums;
 mod turning;
 
 use crate::tables::{adds, has_entry, has_value, pivots};

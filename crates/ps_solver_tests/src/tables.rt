@@ -1,8 +1,9 @@
 //! The conditions of calls on a table, as tests, and what a table has.
 
-ghost use Rattle.std.specs.Prelude.{ℕ, ◌<◌, ◌≤ℤ◌, length, get_or, pos, negsuc, IsTrue};
+ghost use Rattle.std.specs.Prelude.{ℕ, ◌≢◌, ◌<◌, ◌≤ℤ◌, length, get_or, pos, negsuc, IsTrue};
+ghost use Rattle.ps_meaning.specs.Rational.{zero_q};
 ghost use Rattle.ps_bland.specs.Ready.{HasNoNegativeValue};
-ghost use Rattle.ps_table.specs.Tableau.{HasColumn};
+ghost use Rattle.ps_table.specs.Tableau.{HasColumn, entry_of, rows_of};
 ghost use Rattle.ps_table.specs.Pricing.{HasCosts};
 
 use ps_frac::Fraction;
@@ -70,12 +71,24 @@ pub(crate) fn adds(table: &mut Table, entries: &[i64]) -> bool {
     table.add_world(entries).is_ok()
 }
 
-/// Makes a column basic, and tells whether it was done.
-pub(crate) fn pivots(table: &mut Table, row: u32, col: Col) -> bool {
-    if row >= table.rows() || !is_inside(table, col) || table.entry(row, col).is_zero() {
+/// Whether there is an entry other than 0 in a row of a column.
+pub(crate) fn can_pivot(table: &Table, row: u32, col: Col) -> bool
+    ensures row { IsTrue result → row < rows_of table.now }
+    ensures col { IsTrue result → HasColumn table.now col }
+    ensures entry { IsTrue result → entry_of table.now row col ≢ zero_q }
+{
+    if row >= table.rows() || !is_inside(table, col) {
         return false;
     }
-    table.pivot(row, col).is_ok()
+    match table.entry(row, col) {
+        Ok(entry) => !entry.is_zero(),
+        Err(_) => false,
+    }
+}
+
+/// Makes a column basic, and tells whether it was done.
+pub(crate) fn pivots(table: &mut Table, row: u32, col: Col) -> bool {
+    can_pivot(table, row, col) && table.pivot(row, col).is_ok()
 }
 
 /// Whether a row has this value.
@@ -85,5 +98,11 @@ pub(crate) fn has_value(table: &Table, row: u32, expected: (i128, i128)) -> bool
 
 /// Whether a column has this entry in a row.
 pub(crate) fn has_entry(table: &Table, row: u32, col: Col, expected: (i128, i128)) -> bool {
-    row < table.rows() && is_inside(table, col) && is_fraction(&table.entry(row, col), expected)
+    if row >= table.rows() || !is_inside(table, col) {
+        return false;
+    }
+    match table.entry(row, col) {
+        Ok(entry) => is_fraction(&entry, expected),
+        Err(_) => false,
+    }
 }

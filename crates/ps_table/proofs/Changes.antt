@@ -9,7 +9,7 @@ use Rattle.ps_table.specs.declared.change.Change.{Change}
 use Rattle.ps_table.specs.declared.pivot.Pivot.{Pivot}
 use Rattle.std.proofs.lemmas.Bool.{cases_eq}
 use Rattle.ps_meaning.specs.Wide.{Fits, size_limit}
-use Rattle.ps_table.specs.Grids.{GridCells, cell_in, pivoted_in, IsNarrowBeside, ColumnFits, LosesNothing, ArePivoted}
+use Rattle.ps_table.specs.Grids.{GridCells, cell_in, enters, pivoted_in, IsNarrowBeside, ColumnFits, LosesNothing, ArePivoted}
 use Rattle.ps_table.specs.Changes.{written, AreInside, IsUpTo, IsUpToRow, IsUpToColumn}
 use Rattle.ps_table.proofs.Narrow.{all_more}
 use Rattle.ps_table.proofs.Zeros.{zero_scaled, own_kept, kept_value, kept_narrow}
@@ -73,14 +73,14 @@ module _ (g : GridCells) (p : Pivot) (i j : ℕ) (cs : List Change) (row : i < g
       }
 
 -- the next cell has a 0 in the pivot's column, and stays
-pub up_zero : (g : GridCells) (p : Pivot) (i j : ℕ) (cs : List Change) → i < g.rows → i ≢ p.row → cell_in g i p.column ≡ zero_q
+pub up_zero : (g : GridCells) (p : Pivot) (i j : ℕ) (cs : List Change) → i < g.rows → i ≢ p.row → enters p i ≡ zero_q
     → Fits (cell_in g i j).over → (cell_in g i j).under < size_limit → IsUpToRow g p i j cs → IsUpToRow g p (suc i) j cs
 up_zero g p i j cs row other nothing ho hu up = up_kept g p i j cs row up (λ _. kept_narrow g p i j (inr nothing) ho hu) (kept_value g p i j (inr nothing) other)
 
 -- in a column with a 0 in the pivot's row all cells stay
 module _ (g : GridCells) (p : Pivot) (j : ℕ) (cs : List Change) (zero_here : cell_in g p.row j ≡ zero_q) (fits : ColumnFits g j) (up : IsUpToColumn g p j cs) where
   nothing_lost : (i : ℕ) → LosesNothing g p i j
-  nothing_lost i = inl (sym (zero_scaled (cell_in g p.row j) (cell_in g p.row p.column) zero_here) ∙ zero_here)
+  nothing_lost i = inl (sym (zero_scaled (cell_in g p.row j) (enters p p.row) zero_here) ∙ zero_here)
 
   stays : (i : ℕ) → cell_in g i j ≡ pivoted_in g p i j
   stays i = elim (cases_eq i p.row) [

@@ -65,18 +65,29 @@ cell_is w g h i j hi hj =
     ∙ grid_cell w i j (subst (λ n. i < n) (sym h.rows) hi) (subst (λ n. j < n) (sym h.columns) hj)
 
 -- the cells as they are kept are those of the grid
-pub size_of : (n worlds : ℕ) (cells : Cells) → HaveSize n worlds cells → length (list_of cells) ≡ suc (n + worlds) * n
-size_of n worlds (kept.Whole w) h = list_length (w.width * w.rows) (entry_in w) ∙ (λ z. h.1 z * h.0 z)
-size_of n worlds (kept.Fractions v) h = h
+pub size_of : (n : ℕ) (cells : Cells) → HaveSize n cells → length (list_of cells) ≡ suc n * n
+size_of n (kept.Whole w) h = list_length (w.width * w.rows) (entry_in w) ∙ (λ z. h.1 z * h.0 z)
+size_of n (kept.Fractions v) h = h
 
-pub kept_is_grid : (n worlds : ℕ) (cells : Cells) (g : GridCells) → AreKept n worlds cells → cells_of n worlds (list_of cells) ≡ g → IsGrid g
-kept_is_grid n worlds cells g ok view = subst IsGrid view (record { few = ok.few; many = ok.many; size = size_of n worlds cells ok.size })
+pub kept_is_grid : (n : ℕ) (cells : Cells) (g : GridCells) → AreKept n cells → cells_of n (list_of cells) ≡ g → IsGrid g
+kept_is_grid n cells g ok view = subst IsGrid view (record { few = ok.few; size = size_of n cells ok.size })
 
-pub kept_is_whole : (n worlds : ℕ) (cells : Cells) (w : WholeCells) (g : GridCells) → AreKept n worlds cells → cells ≡ kept.Whole w
-    → cells_of n worlds (list_of cells) ≡ g → IsGridOf w g
-kept_is_whole n worlds cells w g ok is view =
-    let size : HaveSize n worlds (kept.Whole w) = subst (HaveSize n worlds) is ok.size in
+pub kept_is_whole : (n : ℕ) (cells : Cells) (w : WholeCells) (g : GridCells) → AreKept n cells → cells ≡ kept.Whole w
+    → cells_of n (list_of cells) ≡ g → IsGridOf w g
+kept_is_whole n cells w g ok is view =
+    let size : HaveSize n (kept.Whole w) = subst (HaveSize n) is ok.size in
     subst (IsGridOf w) view (record { rows = size.0; columns = size.1; cells = ap list_of is })
+
+-- no cell, and one cell more of a column
+pub no_cells : (f : ℕ → Rational) → (i : ℕ) → i < 0 → get_or [] i zero_q ≡ f i
+no_cells f i l = absurd (omega (arith, l))
+
+pub cells_next : (n : ℕ) (f : ℕ → Rational) (now items : List Rational) (x : Rational) → length now ≡ n → ((i : ℕ) → i < n → get_or now i zero_q ≡ f i)
+    → items ≡ now ++ x ∷ [] → x ≡ f n → (i : ℕ) → i < n + 1 → get_or items i zero_q ≡ f i
+cells_next n f now items x count before push value i l = elim (cases_eq i n) [
+  | inl same ↦ ap (λ zs. get_or zs i zero_q) push ∙ ap (λ m. get_or (now ++ x ∷ []) m zero_q) (same ∙ sym count) ∙ get_or-append_seam now x [] zero_q ∙ value ∙ ap f (sym same)
+  | inr ne ↦ ap (λ zs. get_or zs i zero_q) push ∙ get_or-append now (x ∷ []) zero_q i (omega (arith, l, ne, count)) ∙ before i (omega (arith, l, ne))
+]
 
 -- an entry whose number is 0
 pub whole_zero : (w : WholeCells) (i j : ℕ) → number_at w i j ≡ pos 0 → whole_at w i j ≡ zero_q

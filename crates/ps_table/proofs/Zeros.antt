@@ -7,7 +7,7 @@ use Rattle.ps_meaning.proofs.Field.{ring_q, zero_is_fraction}
 use Rattle.ps_meaning.proofs.Zeros.{left_narrow, right_narrow, sum_narrow, difference_narrow}
 use Rattle.ps_table.specs.Tableau.{world_entry}
 use Rattle.ps_table.specs.declared.pivot.Pivot.{Pivot}
-use Rattle.ps_table.specs.Grids.{GridCells, cell_in, scaled_in, lost_in, pivoted_in, LosesNothing, IsCellNarrow, AddsNothing, part_in, sum_in, IsNarrowPart}
+use Rattle.ps_table.specs.Grids.{GridCells, cell_in, enters, scaled_in, lost_in, pivoted_in, LosesNothing, IsCellNarrow, AddsNothing, part_in, sum_in, IsNarrowPart}
 use Rattle.ps_table.proofs.Columns.{pivot_own, pivot_other}
 
 -- 0 divided by the pivot's entry
@@ -16,10 +16,10 @@ zero_scaled x y e = e ∙ ring_q (inverse y ∷ []) none (by none (var 0)) refl 
 
 -- the pivot's own row
 pub own_scaled : (g : GridCells) (p : Pivot) (i j : ℕ) → i ≡ p.row → scaled_in g p j ≡ pivoted_in g p i j
-own_scaled g p i j e = sym (pivot_own (cell_in g) p.row p.column j) ∙ ap (λ k. pivoted_in g p k j) (sym e)
+own_scaled g p i j e = sym (pivot_own (cell_in g) (enters p) p.row j) ∙ ap (λ k. pivoted_in g p k j) (sym e)
 
 pub own_kept : (g : GridCells) (p : Pivot) (i j : ℕ) → i ≡ p.row → cell_in g p.row j ≡ zero_q → cell_in g i j ≡ pivoted_in g p i j
-own_kept g p i j e zero = ap (λ k. cell_in g k j) e ∙ zero_scaled (cell_in g p.row j) (cell_in g p.row p.column) zero ∙ own_scaled g p i j e
+own_kept g p i j e zero = ap (λ k. cell_in g k j) e ∙ zero_scaled (cell_in g p.row j) (enters p p.row) zero ∙ own_scaled g p i j e
 
 pub zero_scale_narrow : (x y : Rational) → x ≡ zero_q → ¬ ProductIsWide x (inverse y)
 zero_scale_narrow x y e = subst (λ k. ¬ ProductIsWide k (inverse y)) (sym e) (left_narrow (inverse y))
@@ -27,7 +27,7 @@ zero_scale_narrow x y e = subst (λ k. ¬ ProductIsWide k (inverse y)) (sym e) (
 module _ (g : GridCells) (p : Pivot) (i j : ℕ) (zero : LosesNothing g p i j) where
   nothing : lost_in g p i j ≡ zero_q
   nothing = elim zero [
-    | inl e ↦ ap (mul (cell_in g i p.column)) e ∙ ring_q (cell_in g i p.column ∷ []) (by (var 0) none) none refl
+    | inl e ↦ ap (mul (enters p i)) e ∙ ring_q (enters p i ∷ []) (by (var 0) none) none refl
     | inr e ↦ ap (λ k. mul k (scaled_in g p j)) e ∙ ring_q (scaled_in g p j ∷ []) (by none (var 0)) none refl
   ]
 
@@ -35,12 +35,12 @@ module _ (g : GridCells) (p : Pivot) (i j : ℕ) (zero : LosesNothing g p i j) w
   kept_value ne =
       ring_q (cell_in g i j ∷ []) (var 0) (plus (var 0) (minus none)) refl
       ∙ ap (sub (cell_in g i j)) (sym nothing)
-      ∙ sym (pivot_other (cell_in g) p.row p.column i j ne)
+      ∙ sym (pivot_other (cell_in g) (enters p) p.row i j ne)
 
   pub kept_narrow : Fits (cell_in g i j).over → (cell_in g i j).under < size_limit → IsCellNarrow g p i j
   kept_narrow ho hu = record {
     times = elim zero [
-      | inl e ↦ subst (λ k. ¬ ProductIsWide (cell_in g i p.column) k) (sym e) (right_narrow (cell_in g i p.column))
+      | inl e ↦ subst (λ k. ¬ ProductIsWide (enters p i) k) (sym e) (right_narrow (enters p i))
       | inr e ↦ subst (λ k. ¬ ProductIsWide k (scaled_in g p j)) (sym e) (left_narrow (scaled_in g p j))
     ];
     minus = subst (λ k. ¬ SumIsWide (cell_in g i j) (neg k)) (sym nothing) (difference_narrow (cell_in g i j) ho hu);

@@ -13,7 +13,8 @@ use Rattle.ps_simplex.specs.Table.{carried_by}
 use Rattle.ps_meaning.specs.declared.limits.TheConstants.{PRINTED_LIMIT}
 use Rattle.ps_table.specs.declared.place.Place.{Place}
 use Rattle.ps_table.specs.declared.place.Place.TheVariants.{Ratio, Scale, Times, Minus, Cost, Whole}
-use Rattle.ps_table.specs.declared.place.Place.TheVariants.{Scaled, Weight, Weighed, Total, NewTimes, NewPlus}
+use Rattle.ps_table.specs.declared.place.Place.TheVariants.{Scaled, Weight, Weighed, Total}
+use Rattle.ps_table.specs.declared.place.Place.TheVariants.{PriceTimes, PricePlus, ColumnTimes, ColumnPlus}
 use Rattle.ps_table.specs.declared.place.TableCol.{TableCol}
 use Rattle.ps_table.specs.declared.place.WideAt.{WideAt}
 use Rattle.ps_table.specs.declared.error.TableError.{TableError}
@@ -21,8 +22,9 @@ use Rattle.ps_table.specs.declared.error.TableError.TheVariants as refused
 use Rattle.ps_table.specs.declared.costs.Costs.{Costs}
 use Rattle.ps_table.specs.declared.col.Col.{Col}
 use Rattle.ps_table.specs.declared.col.Col.TheVariants as col
-use Rattle.ps_table.specs.Tableau.{Tableau, number_in, number_shown, number_of, rows_of, IsShown, entry_at, basic_at, world_entry}
-use Rattle.ps_table.specs.Pricing.{cost_at, cost_part}
+use Rattle.ps_table.specs.Tableau.{Tableau, number_in, number_shown, rows_of, IsShown, home_at, entry_at, entry_of}
+use Rattle.ps_table.specs.Tableau.{entries_of, basic_at, world_entry, column_part}
+use Rattle.ps_table.specs.Pricing.{cost_at, cost_part, multiplier_of}
 
 -- ---- operations
 -- an operation on two numbers, with its place
@@ -58,38 +60,59 @@ IsWide o = elim o.place [
   | Times i c ↦ IsOperationWide o.op o.left o.right
   | Minus i c ↦ IsOperationWide o.op o.left o.right
   | Cost c i ↦ IsOperationWide o.op o.left o.right
-  | NewTimes i m ↦ IsOperationWide o.op o.left o.right
-  | NewPlus i m ↦ IsOperationWide o.op o.left o.right
+  | PriceTimes k m ↦ IsOperationWide o.op o.left o.right
+  | PricePlus k m ↦ IsOperationWide o.op o.left o.right
+  | ColumnTimes k i m ↦ IsOperationWide o.op o.left o.right
+  | ColumnPlus k i m ↦ IsOperationWide o.op o.left o.right
 ]
 
--- ---- the places of each call, in a table of n rows with entries X
--- the operations at the places of a pivot in row p and column q
-pub data PivotPlace (n worlds : ℕ) (X : ℕ → ℕ → Rational) (p q : ℕ) : Operation → Type 0 where
-  at_scale : (c : TableCol) → IsShown n worlds c
-      → PivotPlace n worlds X p q (record { place = Scale c; op = Div; left = X p (number_shown n c); right = X p q })
-  at_times : (i : ℕ) (c : TableCol) → i < n → i ≢ p → IsShown n worlds c
-      → PivotPlace n worlds X p q
-      (record { place = Times i c; op = Mul; left = X i q; right = div (X p (number_shown n c)) (X p q) })
-  at_minus : (i : ℕ) (c : TableCol) → i < n → i ≢ p → IsShown n worlds c
-      → PivotPlace n worlds X p q
+-- ---- the places of each call, in a table of n rows, of which X are the right side and the homes
+-- the operations at the places of a pivot in row p, by the entries y of the column that enters
+pub data PivotPlace (n : ℕ) (X : ℕ → ℕ → Rational) (y : ℕ → Rational) (p : ℕ) : Operation → Type 0 where
+  at_scale : (c : TableCol) → IsShown n c
+      → PivotPlace n X y p (record { place = Scale c; op = Div; left = X p (number_shown n c); right = y p })
+  at_times : (i : ℕ) (c : TableCol) → i < n → i ≢ p → IsShown n c
+      → PivotPlace n X y p (record { place = Times i c; op = Mul; left = y i; right = div (X p (number_shown n c)) (y p) })
+  at_minus : (i : ℕ) (c : TableCol) → i < n → i ≢ p → IsShown n c
+      → PivotPlace n X y p
       (record {
         place = Minus i c;
         op = Sub;
         left = X i (number_shown n c);
-        right = mul (X i q) (div (X p (number_shown n c)) (X p q));
+        right = mul (y i) (div (X p (number_shown n c)) (y p));
       })
 
--- row m of a new world's column, times the home of row m in row i
-abbrev pub new_part : (ℕ → ℕ → Rational) → List ℤ → ℕ → ℕ → Rational
-new_part X entries i m = mul (X i (suc m)) (world_entry entries m)
+-- the operations at the places of row i of the column of world k, of these entries
+pub data ColumnPlace (n : ℕ) (X : ℕ → ℕ → Rational) (entries : List ℤ) (k i : ℕ) : Operation → Type 0 where
+  at_column_times : (m : ℕ) → m < n
+      → ColumnPlace n X entries k i
+      (record { place = ColumnTimes k i m; op = Mul; left = X i (suc m); right = world_entry entries m })
+  at_column_plus : (m : ℕ) → m < n
+      → ColumnPlace n X entries k i
+      (record {
+        place = ColumnPlus k i m;
+        op = Add;
+        left = sum_to m (column_part X entries i);
+        right = column_part X entries i m;
+      })
 
--- the operations at the places of a new world's column
-pub data NewPlace (n : ℕ) (X : ℕ → ℕ → Rational) (entries : List ℤ) : Operation → Type 0 where
-  at_new_times : (i m : ℕ) → i < n → m < n
-      → NewPlace n X entries (record { place = NewTimes i m; op = Mul; left = X i (suc m); right = world_entry entries m })
-  at_new_plus : (i m : ℕ) → i < n → m < n
-      → NewPlace n X entries
-      (record { place = NewPlus i m; op = Add; left = sum_to m (new_part X entries i); right = new_part X entries i m })
+-- what row m adds to the price of a world of these entries: its multiplier times its entry
+abbrev pub price_part : (ℕ → Rational) → List ℤ → ℕ → Rational
+price_part multipliers entries m = mul (multipliers m) (world_entry entries m)
+
+-- the operations at the places of the price of world k, of these entries
+pub data PricePlace (n : ℕ) (multipliers : ℕ → Rational) (entries : List ℤ) (k : ℕ) : Operation → Type 0 where
+  at_price_times : (m : ℕ) → m < n
+      → PricePlace n multipliers entries k
+      (record { place = PriceTimes k m; op = Mul; left = multipliers m; right = world_entry entries m })
+  at_price_plus : (m : ℕ) → m < n
+      → PricePlace n multipliers entries k
+      (record {
+        place = PricePlus k m;
+        op = Add;
+        left = sum_to m (price_part multipliers entries);
+        right = price_part multipliers entries m;
+      })
 
 -- the operations at the places of what the rows carry of column c
 pub data CostPlace (n : ℕ) (cost : ℕ → Rational) (basic : ℕ → ℕ) (X : ℕ → ℕ → Rational) (c : Col) : Operation → Type 0 where
@@ -169,21 +192,37 @@ pub data WeightPlace (n : ℕ) (basic : ℕ → ℕ) (X : ℕ → ℕ → Ration
       })
 
 -- ---- the places of a table's calls
--- the operations at the places of a pivot in a table
-abbrev pub PivotPlaces : Tableau → ℕ → Col → Operation → Type 0
-PivotPlaces t p q = PivotPlace (rows_of t) t.worlds (entry_at t) p (number_of t q)
+-- the operations at the places of row i of a column: a home's is kept
+abbrev pub EntryPlaces : Tableau → ℕ → Col → Operation → Type 0
+EntryPlaces t i (col.Home m) o = ⊥
+EntryPlaces t i (col.World k) o = ColumnPlace (rows_of t) (home_at t) (entries_of t k) k i o
 
--- the operations at the places of a new world's column in a table
-abbrev pub NewPlaces : Tableau → List ℤ → Operation → Type 0
-NewPlaces t entries = NewPlace (rows_of t) (entry_at t) entries
+-- the entries of a column, by row
+abbrev pub column_of : Tableau → Col → ℕ → Rational
+column_of t q i = entry_of t i q
 
--- the operations at the places of what the rows of a table carry of a column
-abbrev pub CostPlaces : Tableau → Costs → Col → Operation → Type 0
-CostPlaces t costs c = CostPlace (rows_of t) (cost_at costs) (basic_at t) (entry_at t) c
+-- the operations at the places of a pivot in a table: of the column that enters, and of the pivot
+pub data PivotPlaces (t : Tableau) (p : ℕ) (q : Col) (o : Operation) : Type 0 where
+  of_column : (i : ℕ) → i < rows_of t → EntryPlaces t i q o → PivotPlaces t p q o
+  of_homes : PivotPlace (rows_of t) (home_at t) (column_of t q) p o → PivotPlaces t p q o
 
--- the operations at the places of the multiplier of a row of a table
+-- the operations at the places of what the rows of a table carry of a home
 abbrev pub HomePlaces : Tableau → Costs → ℕ → Operation → Type 0
-HomePlaces t costs m = CostPlaces t costs (col.Home m)
+HomePlaces t costs m = CostPlace (rows_of t) (cost_at costs) (basic_at t) (entry_at t) (col.Home m)
+
+-- the operations at the places of the price of a world in a table
+abbrev pub PricePlaces : Tableau → Costs → ℕ → Operation → Type 0
+PricePlaces t costs k = PricePlace (rows_of t) (multiplier_of t costs) (entries_of t k) k
+
+-- the operations at the places of what is carried of a world: of all multipliers, and of its price
+pub data WorldPlaces (t : Tableau) (costs : Costs) (k : ℕ) (o : Operation) : Type 0 where
+  of_multiplier : (m : ℕ) → m < rows_of t → HomePlaces t costs m o → WorldPlaces t costs k o
+  of_price : PricePlaces t costs k o → WorldPlaces t costs k o
+
+-- the operations at the places of what is carried of a column of a table
+abbrev pub CarriedPlaces : Tableau → Costs → Col → Operation → Type 0
+CarriedPlaces t costs (col.Home m) = HomePlaces t costs m
+CarriedPlaces t costs (col.World k) = WorldPlaces t costs k
 
 -- ---- refusals
 -- none of these operations is refused
@@ -199,3 +238,13 @@ pub record IsWideAt (P : Operation → Type 0) (w : WideAt) : Type 0 where
 abbrev pub IsRefusedAt : (Operation → Type 0) → TableError → Type 0
 IsRefusedAt P (refused.Wide w) = IsWideAt P w
 IsRefusedAt P refused.NoMemory = Unit {0}
+
+-- no operation for a column is refused in any row
+abbrev pub HasNarrowColumn : Tableau → Col → Type 0
+HasNarrowColumn t q = (i : ℕ) → i < rows_of t → IsNarrow (EntryPlaces t i q)
+
+-- an operation for the column is refused in a row
+pub record IsColumnWide (t : Tableau) (q : Col) (w : WideAt) : Type 0 where
+  pub row : ℕ
+  pub within : row < rows_of t
+  pub wide : IsWideAt (EntryPlaces t row q) w

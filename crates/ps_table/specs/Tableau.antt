@@ -1,5 +1,8 @@
--- A table as its callers see it: the kinds of the homes, the columns one after the other, and the basic columns.
-use Rattle.std.specs.Prelude.{◌≡◌, ℕ, suc, ◌+◌, ◌-◌, ◌*◌, ◌<◌, ◌≤◌, List, get_or, length, set, ℤ, pos}
+-- A table as its callers see it: the kinds of the homes, their columns one after the other, the worlds' entries, and the
+-- basic columns. A world's column isn't kept: the homes combine its entries.
+use Rattle.std.specs.Prelude.{◌≡◌, ℕ, suc, ◌+◌, ◌-◌, ◌*◌, ◌<◌, ◌≤◌, ℤ, pos, if◌then◌else◌}
+use Rattle.std.specs.Prelude.{List, [], ◌∷◌, ◌++◌, get_or, length, set}
+use Rattle.std.proofs.Common.{ltb}
 use Rattle.ps_table.specs.declared.home.Home.{Home}
 use Rattle.ps_table.specs.declared.limits.TheConstants.{MOST_ROWS}
 use Rattle.ps_table.specs.declared.pool.TheConstants.{MOST_WORLDS}
@@ -11,10 +14,12 @@ use Rattle.ps_meaning.specs.Rational.{Rational, fraction, mul, zero_q}
 use Rattle.ps_meaning.specs.Sums.{sum_to}
 use Rattle.ps_simplex.specs.Table.{IsBasisTable, Pivoted, Based, HasHomes, unit_at}
 
--- a table as it is seen: the kind of each home, the number of worlds, the cells column by column, and the basic columns
+-- a table as it is seen: the kind of each home, the number of worlds, the entries of each, the cells of the right side and of
+-- the homes, column by column, and the basic columns
 pub record Tableau : Type 0 where
   pub kinds : List Home
   pub worlds : ℕ
+  pub entries : List (List ℤ)
   pub cells : List Rational
   pub basic : List Col
 
@@ -34,10 +39,15 @@ abbrev pub IsInside : ℕ → ℕ → Col → Type 0
 IsInside n worlds (col.Home i) = i < n
 IsInside n worlds (col.World k) = (0 < k) × (k ≤ worlds)
 
--- a refusal may name the column: the right side, or a column that there is
-abbrev pub IsShown : ℕ → ℕ → TableCol → Type 0
-IsShown n worlds Right = Unit {0}
-IsShown n worlds (Of c) = IsInside n worlds c
+-- the column is a home of n rows
+abbrev pub IsHome : ℕ → Col → Type 0
+IsHome n (col.Home i) = i < n
+IsHome n (col.World k) = ⊥
+
+-- a refusal of a pivot may name the column: the right side or a home
+abbrev pub IsShown : ℕ → TableCol → Type 0
+IsShown n Right = Unit {0}
+IsShown n (Of c) = IsHome n c
 
 -- how many rows a table has
 abbrev pub rows_of : Tableau → ℕ
@@ -55,13 +65,41 @@ number_of t c = number_in (rows_of t) c
 abbrev pub HasColumn : Tableau → Col → Type 0
 HasColumn t c = IsInside (rows_of t) t.worlds c
 
+-- a table has the world
+abbrev pub HasWorld : Tableau → ℕ → Type 0
+HasWorld t k = (0 < k) × (k ≤ t.worlds)
+
 -- row i of column j, in columns of n rows
 abbrev pub cell_at : ℕ → List Rational → ℕ → ℕ → Rational
 cell_at n cells i j = get_or cells (j * n + i) zero_q
 
+-- entry m of a world, as a rational number
+abbrev pub world_entry : List ℤ → ℕ → Rational
+world_entry entries m = fraction (get_or entries m (pos 0)) 1
+
+-- entry m of a world, times the home of row m in row i
+abbrev pub column_part : (ℕ → ℕ → Rational) → List ℤ → ℕ → ℕ → Rational
+column_part X entries i m = mul (X i (suc m)) (world_entry entries m)
+
+-- row i of a world's column: what the n homes times its entries come to
+abbrev pub combined : ℕ → (ℕ → ℕ → Rational) → List ℤ → ℕ → Rational
+combined n X entries i = sum_to n (column_part X entries i)
+
+-- row i of column j: that of the right side or a home, which are X, or of a world's column, which is combined
+unfoldable pub extended : ℕ → (ℕ → ℕ → Rational) → List (List ℤ) → ℕ → ℕ → Rational
+extended n X worlds i j = if ltb n j then combined n X (get_or worlds (j - suc n) []) i else X i j
+
+-- the cell of a row in the right side or a home
+abbrev pub home_at : Tableau → ℕ → ℕ → Rational
+home_at t i j = cell_at (rows_of t) t.cells i j
+
+-- the entries of a world, by its number from 1
+abbrev pub entries_of : Tableau → ℕ → List ℤ
+entries_of t k = get_or t.entries (k - 1) []
+
 -- the entry of a row in the column of this number
 abbrev pub entry_at : Tableau → ℕ → ℕ → Rational
-entry_at t i j = cell_at (rows_of t) t.cells i j
+entry_at t i j = extended (rows_of t) (home_at t) t.entries i j
 
 -- the entry of a row in a column
 abbrev pub entry_of : Tableau → ℕ → Col → Rational
@@ -71,13 +109,15 @@ entry_of t i c = entry_at t i (number_of t c)
 abbrev pub basic_at : Tableau → ℕ → ℕ
 basic_at t i = number_in (rows_of t) (get_or t.basic i (col.Home 0))
 
--- a table as it is kept: some rows, at most as many as may be; a cell for each row and column; in each row one of its columns
--- is basic
+-- a table as it is kept: some rows, at most as many as may be; a cell of the right side and of each home in each row; an entry of
+-- each world in each row; in each row one of its columns is basic
 pub record IsTableau (t : Tableau) : Type 0 where
   pub some : 0 < rows_of t
   pub few : rows_of t ≤ MOST_ROWS
   pub many : t.worlds ≤ MOST_WORLDS
-  pub cells : length t.cells ≡ width_of t * rows_of t
+  pub cells : length t.cells ≡ suc (rows_of t) * rows_of t
+  pub worlds : length t.entries ≡ t.worlds
+  pub columns : (k : ℕ) → k < t.worlds → length (get_or t.entries k []) ≡ rows_of t
   pub basics : length t.basic ≡ rows_of t
   pub inside : (i : ℕ) → i < rows_of t → IsInside (rows_of t) t.worlds (get_or t.basic i (col.Home 0))
 
@@ -108,13 +148,10 @@ IsTableForHomes kinds t = (A : ℕ → ℕ → Rational) → HasHomes (length ki
 pub record IsPivot (p : ℕ) (q : Col) (old new : Tableau) : Type 0 where
   pub kinds : new.kinds ≡ old.kinds
   pub worlds : new.worlds ≡ old.worlds
+  pub entries : new.entries ≡ old.entries
   pub basic : new.basic ≡ set old.basic p q
   pub based : Based (rows_of old) p (number_of old q) (basic_at old) (basic_at new)
   pub cells : Pivoted (rows_of old) (width_of old) p (number_of old q) (entry_at old) (entry_at new)
-
--- entry m of a world, as a rational number
-abbrev pub world_entry : List ℤ → ℕ → Rational
-world_entry entries m = fraction (get_or entries m (pos 0)) 1
 
 -- column j of A is that of the entries
 abbrev pub IsColumn : List ℤ → ℕ → ℕ → (ℕ → ℕ → Rational) → Type 0
@@ -124,6 +161,7 @@ IsColumn entries n j A = (m : ℕ) → m < n → A m j ≡ world_entry entries m
 pub record IsAdded (entries : List ℤ) (old new : Tableau) : Type 0 where
   pub kinds : new.kinds ≡ old.kinds
   pub worlds : new.worlds ≡ suc old.worlds
+  pub added : new.entries ≡ old.entries ++ entries ∷ []
   pub basic : new.basic ≡ old.basic
   pub before : (i j : ℕ) → i < rows_of old → j < width_of old → entry_at new i j ≡ entry_at old i j
   pub here : (i : ℕ) → i < rows_of old → entry_at new i (width_of old)

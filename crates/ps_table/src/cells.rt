@@ -1,6 +1,5 @@
 //! Cells of columns that stand one after the other, and the numbers of columns.
 ghost use Rattle.std.specs.Prelude.{◌≡◌, ℕ, suc, ◌+◌, ◌*◌, ◌<◌, ◌≤◌, length};
-ghost use Rattle.ps_table.specs.declared.pool.TheConstants.{MOST_WORLDS};
 ghost use Rattle.ps_table.specs.Tableau.{number_in, number_shown, IsInside, IsShown, cell_at};
 ghost use Rattle.ps_table.specs.declared.limits.TheConstants.{MOST_ROWS};
 
@@ -28,18 +27,16 @@ pub(crate) fn number_of(rows: usize, col: Col) -> usize
     }
 }
 
-/// The column of a number.
+/// The column of a number: the right side or a home.
 pub(crate) fn column_shown(rows: usize, column: usize) -> TableCol
     requires few { rows ≤ MOST_ROWS }
-    requires many { column ≤ rows + MOST_WORLDS }
+    requires home { column ≤ rows }
     ensures number { number_shown rows result ≡ column }
-    ensures shown { (worlds : ℕ) → column ≤ rows + worlds → IsShown rows worlds result }
+    ensures shown { IsShown rows result }
 {
     if column == 0 {
         TableCol::Right
-    } else if column <= rows {
-        TableCol::Of(Col::Home((column - 1) as u32))
     } else {
-        TableCol::Of(Col::World((column - rows) as u32))
+        TableCol::Of(Col::Home((column - 1) as u32))
     }
 }

@@ -1,6 +1,5 @@
 //! The entries of a table by row and column.
 ghost use Rattle.std.specs.Prelude.{◌≡◌, suc, ◌+◌, ◌*◌, ◌<◌, ◌≤◌, length};
-ghost use Rattle.ps_table.specs.declared.pool.TheConstants.{MOST_WORLDS};
 ghost use Rattle.ps_table.specs.declared.limits.TheConstants.{MOST_ROWS};
 ghost use Rattle.ps_table.specs.Tableau.{number_shown, IsShown};
 ghost use Rattle.ps_table.specs.Grids.{IsGrid, ColumnFits, cell_in, cells_of, width};
@@ -10,11 +9,10 @@ use crate::place::TableCol;
 use ps_frac::Fraction;
 use std::marker::Model;
 
-/// The entries of a table: columns one after the other, the right side, the homes, the worlds.
+/// The entries of a table: columns one after the other, the right side, the homes.
 #[derive(Drop)]
 pub(crate) struct Grid<'a> {
     rows: usize,
-    worlds: usize,
     cells: &'a [Fraction],
 }
 
@@ -23,24 +21,19 @@ impl<'a> Model for Grid<'a> {
 
     ghost Value = { GridCells };
 
-    ghost view = { λ g. cells_of g.rows g.worlds g.cells.now };
+    ghost view = { λ g. cells_of g.rows g.cells.now };
 
-    ghost invariant = { λ g. IsGrid (cells_of g.rows g.worlds g.cells.now) };
+    ghost invariant = { λ g. IsGrid (cells_of g.rows g.cells.now) };
 }
 
 impl<'a> Grid<'a> {
     /// The grid of columns of so many rows.
-    pub(crate) fn of(rows: usize, worlds: usize, cells: &'a [Fraction]) -> Grid<'a>
+    pub(crate) fn of(rows: usize, cells: &'a [Fraction]) -> Grid<'a>
         requires few { rows ≤ MOST_ROWS }
-        requires many { worlds ≤ MOST_WORLDS }
-        requires size { length cells.now ≡ suc (rows + worlds) * rows }
-        ensures value { result ≡ cells_of rows worlds cells.now }
+        requires size { length cells.now ≡ suc rows * rows }
+        ensures value { result ≡ cells_of rows cells.now }
     {
-        Grid {
-            rows,
-            worlds,
-            cells,
-        }
+        Grid { rows, cells }
     }
 
     /// How many rows there are.
@@ -56,7 +49,7 @@ impl<'a> Grid<'a> {
         ensures value { result ≡ width self.now }
         ensures grid { IsGrid self.now }
     {
-        1 + self.rows + self.worlds
+        1 + self.rows
     }
 
     /// The place of a row and a column among the cells.
@@ -94,7 +87,7 @@ impl<'a> Grid<'a> {
     pub(crate) fn column_shown(&self, column: usize) -> TableCol
         requires column { column < width self.now }
         ensures number { number_shown self.now.rows result ≡ column }
-        ensures shown { IsShown self.now.rows self.now.worlds result }
+        ensures shown { IsShown self.now.rows result }
     {
         column_shown(self.rows, column)
     }

@@ -1,20 +1,20 @@
 //! The entries of a table as they are kept: rows of whole numbers while these are small, then
 //! fractions.
-ghost use Rattle.std.specs.Prelude.{◌≡◌, suc, ◌+◌, ◌*◌, ◌<◌, ◌≤◌, length, IfOk, IfErr, IfSome, IsTrue};
-ghost use Rattle.std.specs.Prelude.{pos, negsuc, ◌≤ℤ◌};
+ghost use Rattle.std.specs.Prelude.{◌≡◌, ◌≢◌, suc, ◌+◌, ◌*◌, ◌<◌, ◌≤◌, length, IfOk, IfErr, IfSome};
+ghost use Rattle.std.specs.Prelude.{IsTrue, pos, negsuc, ◌≤ℤ◌};
 ghost use Rattle.ps_meaning.specs.Rational.{zero_q};
 ghost use Rattle.ps_whole.specs.Sums.{IsSmallSum, IsSumWith};
 ghost use Rattle.ps_whole.specs.Whole.{whole_at};
-ghost use Rattle.ps_table.specs.declared.pool.TheConstants.{MOST_WORLDS};
+ghost use Rattle.ps_whole.specs.Pivots.{IsPivotOf as IsWholePivotOf, IsPivoted, ArePivotsNarrow};
 ghost use Rattle.ps_table.specs.declared.limits.TheConstants.{MOST_ROWS};
 ghost use Rattle.ps_table.specs.Places.{IsNarrow, IsRefusedAt};
 ghost use Rattle.ps_table.specs.Grids.{IsGrid, cell_in, width, AreUnits, IsPivotOf, IsNewColumn};
-ghost use Rattle.ps_table.specs.Grids.{GridPivotPlaces, GridNewPlaces, IsMadeColumn};
+ghost use Rattle.ps_table.specs.Grids.{GridPivotPlaces, combined_in, enters};
 ghost use Rattle.ps_table.specs.Changes.{AreInside, ArePivotChanges};
-ghost use Rattle.ps_table.specs.KeptCells.{whole_list, IsPivotOn, IsWorldOn};
-ghost use Rattle.ps_table.specs.KeptCells.{IsWholePivot, IsWholeWorld};
+ghost use Rattle.ps_table.specs.KeptCells.{whole_list, IsPivotOn, IsHomePivot, IsWorldPivot};
+ghost use Rattle.ps_table.specs.KeptCells.{IsWholeHomePivot, IsWholeWorldPivot};
+ghost use Rattle.ps_table.specs.KeptCells.{IsHomeRefusal, IsWorldRefusal, IsCellsOf};
 
-use crate::adding::new_column;
 use crate::cells::cell;
 use crate::change::{Change, write_all};
 use crate::error::TableError;
@@ -27,7 +27,7 @@ use ps_whole::{Whole, WholeSum};
 use std::alloc::Global;
 use std::marker::Model;
 
-/// The entries of a table.
+/// The cells of a table.
 #[derive(Drop)]
 pub(crate) enum Cells {
     /// Rows of whole numbers.
@@ -36,13 +36,12 @@ pub(crate) enum Cells {
     Fractions(Vec<Fraction>),
 }
 
-/// The entries of a table: the right side, the homes, the worlds.
+/// The cells of a table: the right side, the homes.
 #[derive(Drop)]
 pub(crate) struct Kept {
     alloc: Global,
     rows: usize,
-    worlds: usize,
-    cells: Cells,
+    pub(crate) cells: Cells,
 }
 
 impl Model for Kept {
@@ -51,9 +50,9 @@ impl Model for Kept {
 
     ghost Value = { GridCells };
 
-    ghost view = { λ g. cells_of g.rows g.worlds (list_of g.cells) };
+    ghost view = { λ g. cells_of g.rows (list_of g.cells) };
 
-    ghost invariant = { λ g. AreKept g.rows g.worlds g.cells };
+    ghost invariant = { λ g. AreKept g.rows g.cells };
 }
 
 /// Whether the number of a row in a column is 0.
@@ -76,7 +75,7 @@ fn fractions_of(
     columns: usize,
 ) -> Result<Vec<Fraction>, NoMemory>
     requires few { rows ≤ MOST_ROWS }
-    requires many { columns ≤ suc (MOST_ROWS + MOST_WORLDS) }
+    requires many { columns ≤ suc MOST_ROWS }
     requires rows { whole.now.rows ≡ rows }
     requires columns { whole.now.width ≡ columns }
     ensures value { IfOk result (λ v. v.items ≡ whole_list whole.now) }
@@ -86,6 +85,18 @@ fn fractions_of(
         made.push(whole.entry(k % rows, k / rows))?;
     }
     Ok(made)
+}
+
+/// Rows of whole numbers after a pivot, by the numbers of the column that enters, where they stay
+/// small.
+fn whole_pivoted(whole: &Whole, row: usize, column: &[i64]) -> Result<Option<Whole>, NoMemory>
+    requires pivot { IsWholePivotOf whole.now row column.now }
+    ensures narrow { ArePivotsNarrow whole.now row column.now }
+    ensures pivoted { IfOk result (λ made. IfSome made (IsPivoted whole.now row column.now)) }
+{
+    // Called for its clauses: no operation of the pivot is refused.
+    whole.pivots_are_narrow(row, column);
+    whole.after_pivot(row, column)
 }
 
 impl Kept {
@@ -100,16 +111,27 @@ impl Kept {
         Ok(Kept {
             alloc: self.alloc,
             rows: self.rows,
-            worlds: self.worlds,
             cells,
         })
+    }
+
+    /// Where its memory is taken from.
+    pub(crate) fn alloc(&self) -> Global {
+        self.alloc
+    }
+
+    /// How many rows there are.
+    pub(crate) fn rows(&self) -> usize
+        ensures value { result ≡ self.now.rows }
+        ensures grid { IsGrid self.now }
+    {
+        self.rows
     }
 
     /// The homes of so many rows.
     pub(crate) fn of_homes(alloc: Global, rows: usize) -> Result<Kept, NoMemory>
         requires few { rows ≤ MOST_ROWS }
         ensures rows { IfOk result (λ g. g.rows ≡ rows) }
-        ensures worlds { IfOk result (λ g. g.worlds ≡ 0) }
         ensures count { IfOk result (λ g. length g.cells ≡ suc rows * rows) }
         ensures units { IfOk result (λ g. AreUnits rows g.cells) }
     {
@@ -117,7 +139,6 @@ impl Kept {
         Ok(Kept {
             alloc,
             rows,
-            worlds: 0,
             cells: Cells::Whole(whole),
         })
     }
@@ -175,9 +196,7 @@ impl Kept {
         ensures grid { IsGrid self.now }
     {
         match &self.cells {
-            Cells::Whole(whole) => {
-                fractions_of(self.alloc, whole, self.rows, 1 + self.rows + self.worlds)
-            }
+            Cells::Whole(whole) => { fractions_of(self.alloc, whole, self.rows, 1 + self.rows) }
             Cells::Fractions(cells) => {
                 let mut made = Vec::new(self.alloc);
                 made.extend_from_slice(cells)?;
@@ -186,17 +205,56 @@ impl Kept {
         }
     }
 
-    /// The entries after a pivot as rows of whole numbers, where they are so before and after.
-    fn whole_pivoted(&self, pivot: &Pivot) -> Result<Option<Whole>, NoMemory>
-        requires pivot { IsPivotOf self.now pivot.now }
-        ensures pivoted { IfOk result (λ made. IfSome made (IsWholePivot self.now pivot.now)) }
+    /// The entries of a column that is kept.
+    fn column(&self, column: usize) -> Result<Vec<Fraction>, NoMemory>
+        requires column { column < width self.now }
+        ensures cells { IfOk result (λ v. IsCellsOf self.now column v.items) }
+    {
+        let mut made = Vec::new(self.alloc);
+        for row in 0..self.rows() {
+            made.push(self.entry(row, column))?;
+        }
+        Ok(made)
+    }
+
+    /// Rows of whole numbers after a pivot that makes a kept column enter, where they are such
+    /// rows before and after.
+    fn whole_home_pivoted(&self, row: usize, column: usize) -> Result<Option<Whole>, NoMemory>
+        requires grid { IsGrid self.now }
+        requires row { row < self.now.rows }
+        requires column { column < width self.now }
+        requires pivot { cell_in self.now row column ≢ zero_q }
+        ensures pivoted { IfOk result
+            (λ made. IfSome made (IsWholeHomePivot self.now row column)) }
     {
         match &self.cells {
             Cells::Whole(whole) => {
-                // Called for its clauses: no operation of the pivot is refused.
-                whole.pivots_are_narrow(pivot.row, pivot.column);
-                whole.after_pivot(pivot.row, pivot.column)
+                let numbers = whole.column(column)?;
+                whole_pivoted(whole, row, &numbers)
             }
+            Cells::Fractions(_) => Ok(None),
+        }
+    }
+
+    /// Rows of whole numbers after a pivot that makes world `number` enter, where they are such
+    /// rows before and after.
+    fn whole_world_pivoted(
+        &self,
+        row: usize,
+        number: u32,
+        entries: &[i64],
+    ) -> Result<Option<Whole>, NoMemory>
+        requires column { IsNewColumn self.now entries.now }
+        requires row { row < self.now.rows }
+        requires pivot { combined_in self.now entries.now row ≢ zero_q }
+        ensures pivoted { IfOk result
+            (λ r. IfSome r (IsWholeWorldPivot self.now row entries.now number)) }
+    {
+        match &self.cells {
+            Cells::Whole(whole) => match whole.column_of(entries)? {
+                Some(numbers) => whole_pivoted(whole, row, &numbers),
+                None => Ok(None),
+            },
             Cells::Fractions(_) => Ok(None),
         }
     }
@@ -210,14 +268,14 @@ impl Kept {
         ensures narrow { IfOk result (λ _. IsNarrow (GridPivotPlaces self.now pivot.now)) }
         ensures refused { IfErr result (IsRefusedAt (GridPivotPlaces self.now pivot.now)) }
     {
-        let grid = Grid::of(self.rows, self.worlds, cells);
+        let grid = Grid::of(self.rows, cells);
         pivot_changes(self.alloc, &grid, pivot)
     }
 
     /// The entries after a pivot as fractions.
     fn fractions_pivoted(&self, pivot: &Pivot) -> Result<Kept, TableError>
         requires pivot { IsPivotOf self.now pivot.now }
-        ensures pivoted { IfOk result (IsPivotOn self.now pivot.now) }
+        ensures pivoted { IfOk result (IsPivotOn self.now (enters pivot.now) pivot.now.row) }
         ensures refused { IfErr result (IsRefusedAt (GridPivotPlaces self.now pivot.now)) }
     {
         let mut cells = self.fractions()?;
@@ -226,86 +284,79 @@ impl Kept {
         Ok(Kept {
             alloc: self.alloc,
             rows: self.rows,
-            worlds: self.worlds,
             cells: Cells::Fractions(cells),
         })
     }
 
-    /// The entries after a pivot.
-    pub(crate) fn after_pivot(&self, pivot: &Pivot) -> Result<Kept, TableError>
-        requires pivot { IsPivotOf self.now pivot.now }
-        ensures pivoted { IfOk result (IsPivotOn self.now pivot.now) }
-        ensures refused { IfErr result (IsRefusedAt (GridPivotPlaces self.now pivot.now)) }
+    /// The entries after a pivot that makes a kept column enter, as fractions.
+    fn fractions_home_pivoted(&self, row: usize, column: usize) -> Result<Kept, TableError>
+        requires grid { IsGrid self.now }
+        requires row { row < self.now.rows }
+        requires column { column < width self.now }
+        requires pivot { cell_in self.now row column ≢ zero_q }
+        ensures pivoted { IfOk result (IsHomePivot self.now row column) }
+        ensures refused { IfErr result (IsHomeRefusal self.now row column) }
     {
-        match self.whole_pivoted(pivot)? {
+        let entering = self.column(column)?;
+        self.fractions_pivoted(&Pivot { row, entering })
+    }
+
+    /// The entries after a pivot that makes world `number` enter, as fractions.
+    fn fractions_world_pivoted(
+        &self,
+        row: usize,
+        number: u32,
+        entries: &[i64],
+    ) -> Result<Kept, TableError>
+        requires column { IsNewColumn self.now entries.now }
+        requires row { row < self.now.rows }
+        requires pivot { combined_in self.now entries.now row ≢ zero_q }
+        ensures pivoted { IfOk result (IsWorldPivot self.now row entries.now number) }
+        ensures refused { IfErr result (IsWorldRefusal self.now row entries.now number) }
+    {
+        let entering = self.combined_column(number, entries)?;
+        self.fractions_pivoted(&Pivot { row, entering })
+    }
+
+    /// The entries after a pivot that makes a kept column enter.
+    pub(crate) fn after_home(&self, row: usize, column: usize) -> Result<Kept, TableError>
+        requires grid { IsGrid self.now }
+        requires row { row < self.now.rows }
+        requires column { column < width self.now }
+        requires pivot { cell_in self.now row column ≢ zero_q }
+        ensures pivoted { IfOk result (IsHomePivot self.now row column) }
+        ensures refused { IfErr result (IsHomeRefusal self.now row column) }
+    {
+        match self.whole_home_pivoted(row, column)? {
             Some(whole) => Ok(Kept {
                 alloc: self.alloc,
                 rows: self.rows,
-                worlds: self.worlds,
                 cells: Cells::Whole(whole),
             }),
-            None => self.fractions_pivoted(pivot),
+            None => self.fractions_home_pivoted(row, column),
         }
     }
 
-    /// The entries with a new world's column as rows of whole numbers, where they are so before
-    /// and after.
-    fn whole_widened(&self, entries: &[i64]) -> Result<Option<Whole>, NoMemory>
+    /// The entries after a pivot that makes world `number` enter.
+    pub(crate) fn after_world(
+        &self,
+        row: usize,
+        number: u32,
+        entries: &[i64],
+    ) -> Result<Kept, TableError>
         requires column { IsNewColumn self.now entries.now }
-        requires room { self.now.worlds < MOST_WORLDS }
-        ensures widened { IfOk result (λ made. IfSome made (IsWholeWorld self.now entries.now)) }
+        requires row { row < self.now.rows }
+        requires pivot { combined_in self.now entries.now row ≢ zero_q }
+        ensures pivoted { IfOk result (IsWorldPivot self.now row entries.now number) }
+        ensures refused { IfErr result (IsWorldRefusal self.now row entries.now number) }
     {
-        match &self.cells {
-            Cells::Whole(whole) => whole.with_column(entries),
-            Cells::Fractions(_) => Ok(None),
-        }
-    }
-
-    /// The column of a new world on these entries.
-    fn column(&self, cells: &[Fraction], entries: &[i64]) -> Result<Vec<Fraction>, TableError>
-        requires column { IsNewColumn self.now entries.now }
-        requires cells { cells.now ≡ self.now.cells }
-        ensures made { IfOk result (λ v. IsMadeColumn self.now entries.now v.items) }
-        ensures narrow { IfOk result (λ _. IsNarrow (GridNewPlaces self.now entries.now)) }
-        ensures refused { IfErr result (IsRefusedAt (GridNewPlaces self.now entries.now)) }
-    {
-        let grid = Grid::of(self.rows, self.worlds, cells);
-        new_column(self.alloc, &grid, entries)
-    }
-
-    /// The entries with a new world's column as fractions.
-    fn fractions_widened(&self, entries: &[i64]) -> Result<Kept, TableError>
-        requires column { IsNewColumn self.now entries.now }
-        requires room { self.now.worlds < MOST_WORLDS }
-        ensures widened { IfOk result (IsWorldOn self.now entries.now) }
-        ensures refused { IfErr result (IsRefusedAt (GridNewPlaces self.now entries.now)) }
-    {
-        let mut cells = self.fractions()?;
-        let column = self.column(&cells, entries)?;
-        cells.extend_from_slice(&column)?;
-        Ok(Kept {
-            alloc: self.alloc,
-            rows: self.rows,
-            worlds: self.worlds + 1,
-            cells: Cells::Fractions(cells),
-        })
-    }
-
-    /// The entries with a new world's column.
-    pub(crate) fn with_world(&self, entries: &[i64]) -> Result<Kept, TableError>
-        requires column { IsNewColumn self.now entries.now }
-        requires room { self.now.worlds < MOST_WORLDS }
-        ensures widened { IfOk result (IsWorldOn self.now entries.now) }
-        ensures refused { IfErr result (IsRefusedAt (GridNewPlaces self.now entries.now)) }
-    {
-        match self.whole_widened(entries)? {
+        match self.whole_world_pivoted(row, number, entries)? {
             Some(whole) => Ok(Kept {
                 alloc: self.alloc,
                 rows: self.rows,
-                worlds: self.worlds + 1,
                 cells: Cells::Whole(whole),
             }),
-            None => self.fractions_widened(entries),
+            None => self.fractions_world_pivoted(row, number, entries),
         }
     }
 }

@@ -1,4 +1,5 @@
-//! The cells that change in a pivot. A cell with a 0 in the pivot's row or column stays as it is.
+//! The cells that change in a pivot. A cell with a 0 in the pivot's row or in the column that enters
+//! stays as it is.
 ghost use Rattle.std.specs.Prelude.{◌≡◌, suc, ◌<◌, IfOk, IfErr};
 ghost use Rattle.ps_table.specs.Places.{IsWideAt, IsRefusedAt, IsNarrow};
 ghost use Rattle.ps_table.specs.Grids.{width, IsPivotOf, IsOtherCell, GridPivotPlaces};
@@ -27,7 +28,11 @@ fn quotient(grid: &Grid<'_>, pivot: &Pivot, column: usize) -> Result<Fraction, W
     let place = Place::Scale {
         col: grid.column_shown(column),
     };
-    divided_at(place, &grid.cell(pivot.row, column), &pivot.by)
+    divided_at(
+        place,
+        &grid.cell(pivot.row, column),
+        &pivot.entry(pivot.row),
+    )
 }
 
 /// What a cell loses, by the new entry of the pivot's row in its column.
@@ -49,7 +54,7 @@ fn lost(
         row: row as u32,
         col: grid.column_shown(column),
     };
-    times_at(place, &grid.cell(row, pivot.column), scaled)
+    times_at(place, &pivot.entry(row), scaled)
 }
 
 /// A cell of another row than the pivot's, after the pivot: less what it loses.
@@ -99,7 +104,7 @@ fn push_cell(
         changes.push(Change { place, entry })?;
         return Ok(());
     }
-    if grid.cell(row, pivot.column).is_zero() {
+    if pivot.entry(row).is_zero() {
         // Called for its clauses: a cell that fits isn't refused less 0.
         grid.cell(row, column).fits();
         return Ok(());

@@ -36,10 +36,14 @@ pub enum Place {
     Weighed { row: u32 },
     /// The sum of the weights before a row and its weight.
     Total { row: u32 },
-    /// The product of a home's cell and a new world's entry.
-    NewTimes { row: u32, home: u32 },
+    /// The product of a row's multiplier and a world's entry.
+    PriceTimes { world: u32, home: u32 },
     /// The sum of these products before a home and its product.
-    NewPlus { row: u32, home: u32 },
+    PricePlus { world: u32, home: u32 },
+    /// The product of a home's cell in a row and a world's entry.
+    ColumnTimes { world: u32, row: u32, home: u32 },
+    /// The sum of these products before a home and its product.
+    ColumnPlus { world: u32, row: u32, home: u32 },
 }
 
 /// An operation that was refused, with its place and operands.

@@ -1,44 +1,40 @@
 //! The table of a basis.
-ghost use Rattle.std.specs.Prelude.{◌≡◌, ◌≢◌, suc, ◌+◌, ◌*◌, ◌<◌, ◌≤◌, length, get_or};
-ghost use Rattle.std.specs.Prelude.{IfOk, IfErr, IfSome, IsTrue};
+ghost use Rattle.std.specs.Prelude.{◌≡◌, ◌≢◌, suc, ◌+◌, ◌<◌, ◌≤◌, length, get_or};
+ghost use Rattle.std.specs.Prelude.{IfOk, IfErr, IsTrue};
 ghost use Rattle.ps_meaning.specs.Rational.{zero_q};
-ghost use Rattle.ps_whole.specs.Sums.{IsSmallSum};
 ghost use Rattle.ps_table.specs.declared.pool.TheConstants.{MOST_WORLDS};
 ghost use Rattle.ps_table.specs.declared.limits.TheConstants.{MOST_ROWS};
-ghost use Rattle.ps_table.specs.Tableau.{Tableau, IsTableau, rows_of};
-ghost use Rattle.ps_table.specs.Tableau.{HasColumn, number_of, entry_at, entry_of};
+ghost use Rattle.ps_table.specs.Tableau.{Tableau, IsTableau, rows_of, entries_of};
+ghost use Rattle.ps_table.specs.Tableau.{HasColumn, HasWorld, number_of, entry_at, entry_of};
 ghost use Rattle.ps_table.specs.Tableau.{HasBasicHomes, HasUnitHomes, IsTableForHomes};
 ghost use Rattle.ps_table.specs.Tableau.{IsPivot, IsAdded, KeepsSystem, ExtendsSystem};
-ghost use Rattle.ps_table.specs.Pricing.{HasCosts, cost_at, part_at, carried_of, multiplier_of};
-ghost use Rattle.ps_table.specs.Places.{PivotPlaces, NewPlaces, CostPlaces, HomePlaces};
+ghost use Rattle.ps_table.specs.Places.{PivotPlaces, EntryPlaces};
+ghost use Rattle.ps_table.specs.Places.{HasNarrowColumn};
 ghost use Rattle.ps_table.specs.Places.{IsWideAt, IsRefusedAt, IsNarrow};
-ghost use Rattle.ps_table.specs.Grids.{grid_of, IsPivotOf, ArePivotedIn};
-ghost use Rattle.ps_table.specs.Grids.{carried_before, IsNextSum, IsSumNarrowAt};
-ghost use Rattle.ps_table.specs.KeptCells.{IsWorldOn};
+ghost use Rattle.ps_table.specs.Grids.{grid_of, IsNewColumn};
+ghost use Rattle.ps_table.specs.KeptCells.{IsPivotAt};
 
-use crate::at_place::plus_at;
 use crate::cells::number_of as column_number;
 use crate::col::Col;
-use crate::costs::{Costs, cost_of, cost_times};
+use crate::entries::{Entries, entries_copy, worlds_copy};
 use crate::error::TableError;
 use crate::first::first_basic;
 use crate::home::Home;
 use crate::kept::Kept;
-use crate::pivot::Pivot;
-use crate::place::{Place, WideAt};
+use crate::place::WideAt;
 use ps_frac::Fraction;
-use ps_io::NoMemory;
-use ps_whole::WholeSum;
+use ps_io::{List, NoMemory};
 use std::alloc::Global;
 use std::marker::Model;
 
-/// A table: the kinds of its homes, its columns one after the other, and the column that is basic
-/// in each row.
+/// A table: the kinds of its homes, the entries of its worlds, the columns of the right side and of
+/// the homes, and the column that is basic in each row. A world's column isn't kept.
 #[derive(Drop)]
 pub struct Table {
     homes: Vec<Home>,
     worlds: u32,
-    kept: Kept,
+    entries: List<Entries>,
+    pub(crate) kept: Kept,
     basic: Vec<Col>,
 }
 
@@ -51,6 +47,7 @@ impl Model for Table {
     ghost view = { λ t. record {
       kinds = t.homes.items;
       worlds = t.worlds;
+      entries = t.entries;
       cells = t.kept.cells;
       basic = t.basic.items;
     } };
@@ -58,6 +55,7 @@ impl Model for Table {
     ghost invariant = { λ t. IsKeptTableau (record {
       kinds = t.homes.items;
       worlds = t.worlds;
+      entries = t.entries;
       cells = t.kept.cells;
       basic = t.basic.items;
     }) t.kept };
@@ -81,6 +79,7 @@ impl Table {
         Ok(Table {
             homes: kinds,
             worlds: 0,
+            entries: List::new(alloc),
             kept,
             basic,
         })
@@ -93,6 +92,7 @@ impl Table {
         Ok(Table {
             homes: self.homes.as_slice().to_vec(alloc)?,
             worlds: self.worlds,
+            entries: worlds_copy(alloc, self.entries.as_slice())?,
             kept: self.kept.copy()?,
             basic: self.basic.as_slice().to_vec(alloc)?,
         })
@@ -140,14 +140,57 @@ impl Table {
         self.kept.entry(row as usize, 0)
     }
 
-    /// The entry of a column in a row.
-    pub fn entry(&self, row: u32, col: Col) -> Fraction
+    /// The entry of a home in a row.
+    pub(crate) fn home_entry(&self, row: u32, home: u32) -> Fraction
         requires row { row < rows_of self.now }
-        requires col { HasColumn self.now col }
-        ensures value { result ≡ entry_of self.now row col }
+        requires home { home < rows_of self.now }
+        ensures value { result ≡ entry_at self.now row (suc home) }
+    {
+        self.kept.entry(row as usize, 1 + home as usize)
+    }
+
+    /// Whether the entry of a home in a row is 0.
+    pub(crate) fn has_zero(&self, row: u32, home: u32) -> bool
+        requires row { row < rows_of self.now }
+        requires home { home < rows_of self.now }
+        ensures zero { IsTrue result → entry_at self.now row (suc home) ≡ zero_q }
+    {
+        self.kept.is_zero(row as usize, 1 + home as usize)
+    }
+
+    /// The entries of a world.
+    pub(crate) fn world(&self, number: u32) -> &[i64]
+        requires { HasWorld self.now number }
+        ensures entries { result.now ≡ entries_of self.now number }
+        ensures column { IsNewColumn (grid_of self.now) result.now }
+    {
+        self.entries.as_slice()[number as usize - 1].as_slice()
+    }
+
+    /// The entry of a world in a row.
+    fn world_entry(&self, row: u32, number: u32) -> Result<Fraction, WideAt>
+        requires row { row < rows_of self.now }
+        requires world { HasWorld self.now number }
+        ensures value { IfOk result (λ r. r ≡ entry_of self.now row (Col.World number)) }
+        ensures narrow { IfOk result (λ _. IsNarrow (EntryPlaces self.now row (Col.World number))) }
+        ensures refused { IfErr result (IsWideAt (EntryPlaces self.now row (Col.World number))) }
     {
         self.kept
-            .entry(row as usize, column_number(self.homes.len(), col))
+            .combined_cell(number, self.world(number), row as usize)
+    }
+
+    /// The entry of a column in a row. A world's is what the homes times its entries come to.
+    pub fn entry(&self, row: u32, col: Col) -> Result<Fraction, WideAt>
+        requires row { row < rows_of self.now }
+        requires col { HasColumn self.now col }
+        ensures value { IfOk result (λ r. r ≡ entry_of self.now row col) }
+        ensures narrow { IfOk result (λ _. IsNarrow (EntryPlaces self.now row col)) }
+        ensures refused { IfErr result (IsWideAt (EntryPlaces self.now row col)) }
+    {
+        match col {
+            Col::Home(home) => Ok(self.home_entry(row, home)),
+            Col::World(number) => self.world_entry(row, number),
+        }
     }
 
     /// The number of a column, where the right side is 0.
@@ -158,224 +201,60 @@ impl Table {
         column_number(self.homes.len(), col) as u64
     }
 
-    /// What the rows carry of a column: the sum of the basic columns' costs times the entries.
-    pub fn carried(&self, costs: &Costs, col: Col) -> Result<Fraction, WideAt>
-        requires costs { HasCosts costs.now self.now }
-        requires col { HasColumn self.now col }
-        ensures value { IfOk result (λ r. r ≡ carried_of self.now costs.now col) }
-        ensures narrow { IfOk result (λ _. IsNarrow (CostPlaces self.now costs.now col)) }
-        ensures refused { IfErr result (IsWideAt (CostPlaces self.now costs.now col)) }
-    {
-        match self.carried_whole(costs, col) {
-            Some(sum) => Ok(sum),
-            None => self.carried_fractions(costs, col),
-        }
-    }
-
-    /// What the rows carry of a column, added over one denominator, where the entries are rows of
-    /// whole numbers and the sums stay small.
-    fn carried_whole(&self, costs: &Costs, col: Col) -> Option<Fraction>
-        requires costs { HasCosts costs.now self.now }
-        requires col { HasColumn self.now col }
-        ensures value { IfSome result (λ r. r ≡ carried_of self.now costs.now col) }
-        ensures narrow { IfSome result (λ _. IsNarrow (CostPlaces self.now costs.now col)) }
-    {
-        let mut sum = WholeSum::zero();
-        for row in 0..self.rows() {
-            sum = self.whole_sum_with(costs, col, row, &sum)?;
-        }
-        Some(sum.fraction())
-    }
-
-    /// A sum with what row `row` carries of a column, where the entries are rows of whole numbers
-    /// and the sum stays small.
-    fn whole_sum_with(&self, costs: &Costs, col: Col, row: u32, sum: &WholeSum) -> Option<WholeSum>
-        requires costs { HasCosts costs.now self.now }
-        requires col { HasColumn self.now col }
-        requires row { row < rows_of self.now }
-        requires small { IsSmallSum sum.now }
-        ensures sum { IfSome result (IsNextSum self.now costs.now col row sum.now) }
-    {
-        let cost = cost_of(costs, self.basic(row));
-        let column = column_number(self.homes.len(), col);
-        self.kept.sum_with(sum, cost, row as usize, column)
-    }
-
-    /// What the rows carry of a column, added as fractions.
-    fn carried_fractions(&self, costs: &Costs, col: Col) -> Result<Fraction, WideAt>
-        requires costs { HasCosts costs.now self.now }
-        requires col { HasColumn self.now col }
-        ensures value { IfOk result (λ r. r ≡ carried_of self.now costs.now col) }
-        ensures narrow { IfOk result (λ _. IsNarrow (CostPlaces self.now costs.now col)) }
-        ensures refused { IfErr result (IsWideAt (CostPlaces self.now costs.now col)) }
-    {
-        let mut sum = Fraction::new(0, 1);
-        self.add_rows(costs, col, &mut sum)?;
-        Ok(sum)
-    }
-
-    /// Adds what the rows carry of a column to 0.
-    fn add_rows(&self, costs: &Costs, col: Col, sum: &mut Fraction) -> Result<(), WideAt>
-        requires costs { HasCosts costs.now self.now }
-        requires col { HasColumn self.now col }
-        requires sum { sum.old ≡ zero_q }
-        ensures value { IfOk result (λ _. sum.new ≡ carried_of self.now costs.now col) }
-        ensures narrow { IfOk result (λ _. IsNarrow (CostPlaces self.now costs.now col)) }
-        ensures refused { IfErr result (IsWideAt (CostPlaces self.now costs.now col)) }
-    {
-        for row in 0..self.rows() {
-            self.add_row(costs, col, row, sum)?;
-        }
-        Ok(())
-    }
-
-    /// Adds what row `row` carries of a column to what the rows before do; a row that carries 0
-    /// takes no operation.
-    fn add_row(&self, costs: &Costs, col: Col, row: u32, sum: &mut Fraction) -> Result<(), WideAt>
-        requires costs { HasCosts costs.now self.now }
-        requires col { HasColumn self.now col }
-        requires row { row < rows_of self.now }
-        requires sum { sum.old ≡ carried_before self.now costs.now col row }
-        ensures value { IfOk result
-            (λ _. sum.new ≡ carried_before self.now costs.now col (suc row)) }
-        ensures narrow { IfOk result (λ _. IsSumNarrowAt self.now costs.now col row) }
-        ensures refused { IfErr result (IsWideAt (CostPlaces self.now costs.now col)) }
-    {
-        if self.carries_nothing(costs, col, row) {
-            // Called for its clauses: a sum that fits isn't refused with 0.
-            sum.fits();
-            return Ok(());
-        }
-        *sum = self.sum_with(costs, col, row, sum)?;
-        Ok(())
-    }
-
-    /// The sum of what the rows before row `row` carry of a column, and of what that row does.
-    fn sum_with(
-        &self,
-        costs: &Costs,
-        col: Col,
-        row: u32,
-        sum: &Fraction,
-    ) -> Result<Fraction, WideAt>
-        requires costs { HasCosts costs.now self.now }
-        requires col { HasColumn self.now col }
-        requires row { row < rows_of self.now }
-        requires sum { sum.now ≡ carried_before self.now costs.now col row }
-        ensures value { IfOk result (λ r. r ≡ carried_before self.now costs.now col (suc row)) }
-        ensures narrow { IfOk result (λ _. IsSumNarrowAt self.now costs.now col row) }
-        ensures refused { IfErr result (IsWideAt (CostPlaces self.now costs.now col)) }
-    {
-        plus_at(Place::Cost { col, row }, sum, &self.part(costs, col, row))
-    }
-
-    /// Whether row `row` carries 0 of a column: its basic column costs 0, or its entry is 0.
-    fn carries_nothing(&self, costs: &Costs, col: Col, row: u32) -> bool
-        requires costs { HasCosts costs.now self.now }
-        requires col { HasColumn self.now col }
-        requires row { row < rows_of self.now }
-        ensures nothing { IsTrue result → part_at self.now costs.now (number_of self.now col) row
-            ≡ zero_q }
-    {
-        cost_of(costs, self.basic(row)) == 0 || self.has_zero(row, col)
-    }
-
-    /// Whether the entry of a column in a row is 0.
-    fn has_zero(&self, row: u32, col: Col) -> bool
-        requires row { row < rows_of self.now }
-        requires col { HasColumn self.now col }
-        ensures zero { IsTrue result → entry_of self.now row col ≡ zero_q }
-    {
-        self.kept
-            .is_zero(row as usize, column_number(self.homes.len(), col))
-    }
-
-    /// The cost of a column.
-    pub fn cost(&self, costs: &Costs, col: Col) -> Fraction
-        requires costs { HasCosts costs.now self.now }
-        requires col { HasColumn self.now col }
-        ensures value { result ≡ cost_at costs.now (number_of self.now col) }
-    {
-        Fraction::new(cost_of(costs, col) as i128, 1)
-    }
-
-    /// What row `row` carries of a column.
-    fn part(&self, costs: &Costs, col: Col, row: u32) -> Fraction
-        requires costs { HasCosts costs.now self.now }
-        requires col { HasColumn self.now col }
-        requires row { row < rows_of self.now }
-        ensures value { result ≡ part_at self.now costs.now (number_of self.now col) row }
-    {
-        cost_times(cost_of(costs, self.basic(row)), &self.entry(row, col))
-    }
-
-    /// What the rows carry of a row's home.
-    pub fn multiplier(&self, costs: &Costs, row: u32) -> Result<Fraction, WideAt>
-        requires costs { HasCosts costs.now self.now }
-        requires row { row < rows_of self.now }
-        ensures value { IfOk result (λ r. r ≡ multiplier_of self.now costs.now row) }
-        ensures narrow { IfOk result (λ _. IsNarrow (HomePlaces self.now costs.now row)) }
-        ensures refused { IfErr result (IsWideAt (HomePlaces self.now costs.now row)) }
-    {
-        self.carried(costs, Col::Home(row))
-    }
-
-    /// The entries with the column of a new world.
-    fn with_world(&self, entries: &[i64]) -> Result<Kept, TableError>
-        requires count { length entries.now ≡ rows_of self.now }
-        requires room { self.now.worlds < MOST_WORLDS }
-        ensures widened { IfOk result (IsWorldOn (grid_of self.now) entries.now) }
-        ensures refused { IfErr result (IsRefusedAt (NewPlaces self.now entries.now)) }
-    {
-        self.kept.with_world(entries)
-    }
-
-    /// Adds the column of a world with these entries, and answers its number.
-    pub fn add_world(&mut self, entries: &[i64]) -> Result<u32, TableError>
+    /// Adds a world with these entries, and answers its number.
+    pub fn add_world(&mut self, entries: &[i64]) -> Result<u32, NoMemory>
         requires count { length entries.now ≡ rows_of self.old }
         requires room { self.old.worlds < MOST_WORLDS }
         ensures number { IfOk result (λ n. n ≡ self.old.worlds + 1) }
         ensures added { IfOk result (λ _. IsAdded entries.now self.old self.new) }
         ensures stands { IfOk result (λ _. ExtendsSystem entries.now self.old self.new) }
-        ensures narrow { IfOk result (λ _. IsNarrow (NewPlaces self.old entries.now)) }
-        ensures refused { IfErr result (IsRefusedAt (NewPlaces self.old entries.now)) }
         ensures same { IfErr result (λ _. self.new ≡ self.old) }
     {
-        let made = self.with_world(entries)?;
-        self.kept = made;
+        let made = entries_copy(self.kept.alloc(), entries)?;
+        self.entries.push(made)?;
         self.worlds += 1;
         Ok(self.worlds)
     }
 
-    /// The pivot in a row and a column.
-    fn pivot_at(&self, row: u32, col: Col) -> Pivot
+    /// The cells after a pivot in a row and a home.
+    fn after_home(&self, row: u32, home: u32) -> Result<Kept, TableError>
         requires row { row < rows_of self.now }
-        requires col { HasColumn self.now col }
-        requires pivot { entry_of self.now row col ≢ zero_q }
-        ensures row { result.row ≡ row }
-        ensures column { result.column ≡ number_of self.now col }
-        ensures pivot { IsPivotOf (grid_of self.now) result }
+        requires home { home < rows_of self.now }
+        requires pivot { entry_at self.now row (suc home) ≢ zero_q }
+        ensures pivoted { IfOk result (IsPivotAt self.now row (Col.Home home)) }
+        ensures refused { IfErr result
+            (IsRefusedAt (PivotPlaces self.now row (Col.Home home))) }
     {
-        Pivot {
-            row: row as usize,
-            column: column_number(self.homes.len(), col),
-            by: self.entry(row, col),
-        }
+        self.kept.after_home(row as usize, 1 + home as usize)
     }
 
-    /// The entries after a pivot in a row and a column.
+    /// The cells after a pivot in a row and a world.
+    fn after_world(&self, row: u32, number: u32) -> Result<Kept, TableError>
+        requires row { row < rows_of self.now }
+        requires world { HasWorld self.now number }
+        requires pivot { entry_of self.now row (Col.World number) ≢ zero_q }
+        ensures pivoted { IfOk result (IsPivotAt self.now row (Col.World number)) }
+        ensures column { IfOk result (λ _. HasNarrowColumn self.now (Col.World number)) }
+        ensures refused { IfErr result
+            (IsRefusedAt (PivotPlaces self.now row (Col.World number))) }
+    {
+        self.kept
+            .after_world(row as usize, number, self.world(number))
+    }
+
+    /// The cells after a pivot in a row and a column.
     fn after_pivot(&self, row: u32, col: Col) -> Result<Kept, TableError>
         requires row { row < rows_of self.now }
         requires col { HasColumn self.now col }
         requires pivot { entry_of self.now row col ≢ zero_q }
-        ensures rows { IfOk result (λ g. g.rows ≡ rows_of self.now) }
-        ensures worlds { IfOk result (λ g. g.worlds ≡ self.now.worlds) }
-        ensures count { IfOk result (λ g. length g.cells ≡ length self.now.cells) }
-        ensures pivoted { IfOk result (λ g. ArePivotedIn self.now row col g.cells) }
-        ensures narrow { IfOk result (λ _. IsNarrow (PivotPlaces self.now row col)) }
+        ensures pivoted { IfOk result (IsPivotAt self.now row col) }
+        ensures column { IfOk result (λ _. HasNarrowColumn self.now col) }
         ensures refused { IfErr result (IsRefusedAt (PivotPlaces self.now row col)) }
     {
-        self.kept.after_pivot(&self.pivot_at(row, col))
+        match col {
+            Col::Home(home) => self.after_home(row, home),
+            Col::World(number) => self.after_world(row, number),
+        }
     }
 
     /// Makes column `col` basic in row `row`.

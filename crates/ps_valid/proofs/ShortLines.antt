@@ -27,7 +27,7 @@ use Rattle.ps_answer.specs.declared.item.Ratio.{Ratio}
 use Rattle.ps_answer.specs.declared.item.LineItem.{LineItem}
 use Rattle.ps_answer.specs.declared.item.LineItem.TheVariants.{Report, Consistent, Inconsistent, OpenPivots, OpenConflicts, OpenWide, ModelHead, Entry, DualHead, Rows, StepLine, GoalLine, TraceHead, PivotLine, PricedLine, Query, Bounds, Impossible, Bound, OpenSide, End}
 use Rattle.ps_answer.specs.Words.{Word, Letters, Number, Fraction, Column, Truths, digit_of, word_text, joined}
-use Rattle.ps_answer.specs.Items.{count, op_word, shown_word, place_words, side_word, item_words, item_line, IsWithin, IsPrintable, IsColWithin, IsShownWithin, IsPlaceWithin, IsRatioWithin}
+use Rattle.ps_answer.specs.Items.{count, op_word, shown_word, place_words, side_word, item_words, item_line, IsWithin, IsPrintable, IsWorldWithin, IsColWithin, IsShownWithin, IsPlaceWithin, IsRatioWithin}
 use Rattle.ps_answer.specs.declared.limits.TheConstants.{MOST_OPERAND}
 
 -- a word of at most 128 bytes
@@ -97,10 +97,13 @@ brief_rows : (rows : List ℤ) → All IsPrintable rows → AllByRecursion IsBri
 brief_rows [] h = tt
 brief_rows (y ∷ rows) h = (small_number y (All-head IsPrintable y rows h), brief_rows rows (All-tail IsPrintable y rows h))
 
--- a place has two or three words
+brief_world_number : (n : ℕ) → IsWorldWithin n → IsBrief (count n)
+brief_world_number n h = brief_count n (omega (arith, h.1))
+
+-- a place has two to four words
 record IsBriefPlace (at : Place) : Type 0 where
   brief : AllByRecursion IsBrief (place_words at)
-  few : length (place_words at) ≤ 3
+  few : length (place_words at) ≤ 4
 
 brief_place : (at : Place) → IsPlaceWithin at → IsBriefPlace at
 brief_place (place.Ratio i) h = record { brief = (brief_letters (codes "ratio") (omega arith), (brief_count i (omega (arith, h)), tt)); few = omega arith }
@@ -113,8 +116,10 @@ brief_place (place.Scaled i) h = record { brief = (brief_letters (codes "scaled"
 brief_place (place.Weight i) h = record { brief = (brief_letters (codes "weight") (omega arith), (brief_count i (omega (arith, h)), tt)); few = omega arith }
 brief_place (place.Weighed i) h = record { brief = (brief_letters (codes "weighed") (omega arith), (brief_count i (omega (arith, h)), tt)); few = omega arith }
 brief_place (place.Total i) h = record { brief = (brief_letters (codes "total") (omega arith), (brief_count i (omega (arith, h)), tt)); few = omega arith }
-brief_place (place.NewTimes i m) h = record { brief = (brief_letters (codes "new-times") (omega arith), (brief_count i (omega (arith, h.0)), (brief_count m (omega (arith, h.1)), tt))); few = omega arith }
-brief_place (place.NewPlus i m) h = record { brief = (brief_letters (codes "new-plus") (omega arith), (brief_count i (omega (arith, h.0)), (brief_count m (omega (arith, h.1)), tt))); few = omega arith }
+brief_place (place.PriceTimes n m) h = record { brief = (brief_letters (codes "price-times") (omega arith), (brief_world_number n h.0, (brief_count m (omega (arith, h.1)), tt))); few = omega arith }
+brief_place (place.PricePlus n m) h = record { brief = (brief_letters (codes "price-plus") (omega arith), (brief_world_number n h.0, (brief_count m (omega (arith, h.1)), tt))); few = omega arith }
+brief_place (place.ColumnTimes n i m) h = record { brief = (brief_letters (codes "column-times") (omega arith), (brief_world_number n h.0, (brief_count i (omega (arith, h.1)), (brief_count m (omega (arith, h.2)), tt)))); few = omega arith }
+brief_place (place.ColumnPlus n i m) h = record { brief = (brief_letters (codes "column-plus") (omega arith), (brief_world_number n h.0, (brief_count i (omega (arith, h.1)), (brief_count m (omega (arith, h.2)), tt)))); few = omega arith }
 
 -- ---- lines
 joined_length : (text : List ℕ) (ws : List Word) → AllByRecursion IsBrief ws → length (fold (λ line word. with_word line (word_text word)) text ws) ≤ length text + 129 * length ws

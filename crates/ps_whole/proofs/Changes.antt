@@ -1,5 +1,5 @@
 -- Rows of whole numbers after a pivot, before they are divided by what is common to a row.
-use Rattle.std.proofs.Common.{◌≡◌, ◌≢◌, ℕ, zero, suc, ◌*◌, ◌<◌, ℤ, pos, negsuc, ◌+ℤ◌, ◌-ℤ◌, ◌*ℤ◌, neg_ℤ, unsigned_abs, [], ◌∷◌, refl, ap, sym, ◌∙◌, subst, arith}
+use Rattle.std.proofs.Common.{◌≡◌, ◌≢◌, ℕ, zero, suc, ◌*◌, ◌<◌, List, get_or, ℤ, pos, negsuc, ◌+ℤ◌, ◌-ℤ◌, ◌*ℤ◌, neg_ℤ, unsigned_abs, [], ◌∷◌, refl, ap, sym, ◌∙◌, subst, arith}
 use Rattle.std.proofs.lemmas.Int.{ints}
 use Rattle.std.proofs.Math.Nat.{mul-pos, div-mul_cancel}
 use Rattle.std.proofs.Common.{◌/◌, int_div}
@@ -12,7 +12,7 @@ use Rattle.ps_meaning.proofs.IntRing.{ring_z, *ℤ-one, cross_reduced}
 use Rattle.ps_meaning.proofs.Cross.{quotient-same}
 use Rattle.ps_meaning.proofs.Field.{ring_q}
 use Rattle.ps_whole.specs.Whole.{WholeCells, number_at, under_at, whole_at}
-use Rattle.ps_whole.specs.Pivots.{raw_number, IsContent, IsRowChange}
+use Rattle.ps_whole.specs.Pivots.{over_row, raw_number, IsContent, IsRowChange}
 use Rattle.ps_whole.specs.declared.change.RowChange.{RowChange}
 use Rattle.ps_whole.proofs.NewCells.{own_row, new_cell}
 
@@ -121,9 +121,9 @@ one_common : (row : ℕ → ℤ) (n base : ℕ) → IsContent row n base 1
 one_common row n base = record { positive = omega arith; under = one-dvd base; over = λ j l. one-dvd (unsigned_abs (row j)) }
 
 -- a row that loses nothing stays as it is
-pub kept_change : (w : WholeCells) (p q i : ℕ) (change : RowChange) → i ≢ p → number_at w i q ≡ pos 0
-    → change.times ≡ pos 1 → change.less ≡ pos 0 → change.base ≡ under_at w i → 0 < change.base → change.by ≡ 1 → IsRowChange w p q i change
-kept_change w p q i change ne lost times less base positive by_is = record {
+pub kept_change : (w : WholeCells) (p : ℕ) (column : List ℤ) (i : ℕ) (change : RowChange) → i ≢ p → get_or column i (pos 0) ≡ pos 0
+    → change.times ≡ pos 1 → change.less ≡ pos 0 → change.base ≡ under_at w i → 0 < change.base → change.by ≡ 1 → IsRowChange w p column i change
+kept_change w p column i change ne lost times less base positive by_is = record {
   times = omega (arith, ints, times);
   less = omega (arith, ints, less);
   base = positive;
@@ -131,6 +131,6 @@ kept_change w p q i change ne lost times less base positive by_is = record {
   cells = λ j. record {
     own = λ same. absurd (ne same);
     other = λ _. (λ k. fraction ((number_at w i j *ℤ times k) -ℤ (less k *ℤ number_at w p j)) (base k))
-        ∙ kept_cell (number_at w i j) (number_at w i q) (number_at w p j) (under_at w i) (under_at w i) (div (whole_at w p j) (whole_at w p q)) lost;
+        ∙ kept_cell (number_at w i j) (get_or column i (pos 0)) (number_at w p j) (under_at w i) (under_at w i) (div (whole_at w p j) (over_row w column p)) lost;
   };
 }

@@ -13,7 +13,7 @@ home_one i j e = sym (ap (λ b. cond b (pos 1) (pos 0)) (eq-eqb i (j - 1) e))
 pub home_zero : (i j : ℕ) → i ≢ j - 1 → pos 0 ≡ home_at i j
 home_zero i j ne = sym (ap (λ b. cond b (pos 1) (pos 0)) (ne_eqb i (j - 1) ne))
 
-smalls_more : (now : List ℤ) (v : ℤ) → ((k : ℕ) → unsigned_abs (get_or now k (pos 0)) < 2 ^ 62) → unsigned_abs v < 2 ^ 62
+pub smalls_more : (now : List ℤ) (v : ℤ) → ((k : ℕ) → unsigned_abs (get_or now k (pos 0)) < 2 ^ 62) → unsigned_abs v < 2 ^ 62
     → (k : ℕ) → unsigned_abs (get_or (now ++ v ∷ []) k (pos 0)) < 2 ^ 62
 smalls_more [] v h hv zero = hv
 smalls_more [] v h hv (suc k) = omega arith

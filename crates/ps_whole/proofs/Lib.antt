@@ -4,6 +4,7 @@ pub mod Changes
 pub mod Pushed
 pub mod NarrowPivots
 pub mod NewColumns
-pub mod Widened
+pub mod Numbers
 pub mod FirstRows
 pub mod Added
+pub mod RowOf

@@ -10,7 +10,7 @@ use Rattle.ps_meaning.specs.Parts.{part_pos}
 use Rattle.ps_meaning.proofs.IntRing.{*ℤ-one}
 use Rattle.ps_whole.specs.Whole.{WholeCells, IsWhole, number_at, whole_at}
 use Rattle.ps_whole.specs.Columns.{IsCopied}
-use Rattle.ps_whole.specs.Pivots.{raw_number, IsPushedTo, IsPivotedTo, IsPivotCell, IsRowChange}
+use Rattle.ps_whole.specs.Pivots.{over_row, raw_number, IsPushedTo, IsPivotedTo, IsPivotCell, IsRowChange}
 use Rattle.ps_whole.specs.declared.change.RowChange.{RowChange}
 use Rattle.ps_whole.proofs.NewCells.{reduced}
 use Rattle.ps_whole.proofs.Changes.{at_least_one_value, nothing_lost}
@@ -48,8 +48,8 @@ divided_cell V raw D base g hd hb value under =
     reduced V raw (at_least_one D) (at_least_one base) g value
     (ap (λ n. n * g) (at_least_one_value D hd) ∙ under ∙ sym (at_least_one_value base hb))
 
-module _ (w : WholeCells) (p q i : ℕ) (change : RowChange) (numbers new : List ℤ) (unders items : List ℕ) (D : ℕ)
-    (done : IsPivotedTo w p q i numbers unders) (turn : IsRowChange w p q i change) (pushed : IsPushedTo (raw_number w p i change.times change.less) change.by numbers w.width new)
+module _ (w : WholeCells) (p : ℕ) (column : List ℤ) (i : ℕ) (change : RowChange) (numbers new : List ℤ) (unders items : List ℕ) (D : ℕ)
+    (done : IsPivotedTo w p column i numbers unders) (turn : IsRowChange w p column i change) (pushed : IsPushedTo (raw_number w p i change.times change.less) change.by numbers w.width new)
     (e : items ≡ unders ++ D ∷ []) (part : D ≡ change.base / change.by) (narrow : D < 2 ^ 62) where
   whole : D * change.by ≡ change.base
   whole = ap (λ n. n * change.by) part ∙ div-mul_cancel change.by turn.content.under
@@ -95,7 +95,7 @@ module _ (w : WholeCells) (p q i : ℕ) (change : RowChange) (numbers new : List
       (λ k. fraction (get_or new (sym done.count k + j) (pos 0)) (last k))
       ∙ divided_cell V (raw_number w p i change.times change.less j) D change.base change.by hd turn.base (pushed.here j hj) whole
 
-  pub pivoted_next : IsPivotedTo w p q (suc i) new items
+  pub pivoted_next : IsPivotedTo w p column (suc i) new items
   pivoted_next = record {
     count = omega (arith, pushed.count, done.count);
     rows = omega (arith, length_items);
@@ -103,9 +103,9 @@ module _ (w : WholeCells) (p q i : ℕ) (change : RowChange) (numbers new : List
     small_unders = each_under (λ n. n < 2 ^ 62) done.small_unders narrow (omega arith);
     small = size_of;
     cells = λ m j hm hj. elim (cases_eq m i) [
-      | inl same ↦ subst (λ k. IsPivotCell (whole_at w) p q k j (fraction (get_or new (k * w.width + j) (pos 0)) (get_or items k 1))) (sym same)
-          (subst (λ x. IsPivotCell (whole_at w) p q i j x) (sym (cell_here j hj)) (turn.cells j))
-      | inr ne ↦ subst (λ x. IsPivotCell (whole_at w) p q m j x) (sym (cell_before m j (omega (arith, hm, ne)) hj)) (done.cells m j (omega (arith, hm, ne)) hj)
+      | inl same ↦ subst (λ k. IsPivotCell (whole_at w) (over_row w column) p k j (fraction (get_or new (k * w.width + j) (pos 0)) (get_or items k 1))) (sym same)
+          (subst (λ x. IsPivotCell (whole_at w) (over_row w column) p i j x) (sym (cell_here j hj)) (turn.cells j))
+      | inr ne ↦ subst (λ x. IsPivotCell (whole_at w) (over_row w column) p m j x) (sym (cell_before m j (omega (arith, hm, ne)) hj)) (done.cells m j (omega (arith, hm, ne)) hj)
     ];
   }
 

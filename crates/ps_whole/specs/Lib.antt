@@ -4,3 +4,4 @@ pub mod Laws
 pub mod Columns
 pub mod Homes
 pub mod Sums
+pub mod Rows

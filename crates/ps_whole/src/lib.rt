@@ -2,15 +2,16 @@
 #![tactic(auto)]
 
 mod change;
+mod columns;
 mod divisors;
 mod homes;
 mod laws;
 mod limits;
 mod pivoting;
+mod row_of;
 mod rows;
 mod sums;
 mod turning;
-mod widening;
 
 pub use laws::row_laws;
 pub use limits::{MOST_COLUMNS, MOST_ROWS};

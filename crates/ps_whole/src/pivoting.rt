@@ -72,17 +72,18 @@ impl Whole {
     fn push_row(
         &self,
         p: usize,
-        q: usize,
+        column: &[i64],
         i: usize,
         numbers: &mut Vec<i64>,
         unders: &mut Vec<u64>,
     ) -> Result<bool, NoMemory>
-        requires pivot { IsPivotOf self.now p q }
+        requires pivot { IsPivotOf self.now p column.now }
         requires row { i < self.now.rows }
-        requires before { IsPivotedTo self.now p q i numbers.old.items unders.old.items }
-        ensures all { IfAll result (HasNextRow self.now p q i numbers.new.items unders.new.items) }
+        requires before { IsPivotedTo self.now p column.now i numbers.old.items unders.old.items }
+        ensures all { IfAll result
+            (HasNextRow self.now p column.now i numbers.new.items unders.new.items) }
     {
-        let change = self.change(p, q, i);
+        let change = self.change(p, column, i);
         let under = size_quotient(change.base, change.by);
         if !(under < LIMIT) {
             return Ok(false);
@@ -98,30 +99,32 @@ impl Whole {
     fn push_rows(
         &self,
         p: usize,
-        q: usize,
+        column: &[i64],
         numbers: &mut Vec<i64>,
         unders: &mut Vec<u64>,
     ) -> Result<bool, NoMemory>
-        requires pivot { IsPivotOf self.now p q }
-        requires before { IsPivotedTo self.now p q 0 numbers.old.items unders.old.items }
-        ensures all { IfAll result (ArePivoted self.now p q numbers.new.items unders.new.items) }
+        requires pivot { IsPivotOf self.now p column.now }
+        requires before { IsPivotedTo self.now p column.now 0 numbers.old.items unders.old.items }
+        ensures all { IfAll result
+            (ArePivoted self.now p column.now numbers.new.items unders.new.items) }
     {
         for i in 0..self.rows() {
-            if !self.push_row(p, q, i, numbers, unders)? {
+            if !self.push_row(p, column, i, numbers, unders)? {
                 return Ok(false);
             }
         }
         Ok(true)
     }
 
-    /// The table after a pivot in row `p` and column `q`, if its numbers are small enough.
-    pub fn after_pivot(&self, p: usize, q: usize) -> Result<Option<Whole>, NoMemory>
-        requires pivot { IsPivotOf self.now p q }
-        ensures pivoted { IfOk result (λ made. IfSome made (IsPivoted self.now p q)) }
+    /// The table after a pivot in row `p`, by the numbers of the column that enters, if its numbers
+    /// are small enough.
+    pub fn after_pivot(&self, p: usize, column: &[i64]) -> Result<Option<Whole>, NoMemory>
+        requires pivot { IsPivotOf self.now p column.now }
+        ensures pivoted { IfOk result (λ made. IfSome made (IsPivoted self.now p column.now)) }
     {
         let mut numbers = Vec::with_capacity(self.alloc, self.numbers.len())?;
         let mut unders = Vec::with_capacity(self.alloc, self.rows)?;
-        if !self.push_rows(p, q, &mut numbers, &mut unders)? {
+        if !self.push_rows(p, column, &mut numbers, &mut unders)? {
             return Ok(None);
         }
         Ok(Some(Whole {
@@ -134,9 +137,9 @@ impl Whole {
     }
 
     /// No operation on the entries of a pivot is too large: a law, no more than a read.
-    pub fn pivots_are_narrow(&self, p: usize, q: usize)
-        requires pivot { IsPivotOf self.now p q }
-        ensures narrow { ArePivotsNarrow self.now p q }
+    pub fn pivots_are_narrow(&self, p: usize, column: &[i64])
+        requires pivot { IsPivotOf self.now p column.now }
+        ensures narrow { ArePivotsNarrow self.now p column.now }
     {
         self.rows();
     }

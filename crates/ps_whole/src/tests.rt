@@ -2,33 +2,49 @@
 ghost use Rattle.std.specs.Prelude.{IfSome};
 ghost use Rattle.ps_whole.specs.Sums.{IsSmallSum};
 
-use crate::limits::MOST_COLUMNS;
 use crate::{Whole, WholeSum, row_laws};
 use ps_frac::Fraction;
 use std::test::Fail;
 
-/// The table with a new column, if its numbers are small enough.
-fn wider(table: &Whole, entries: &[i64]) -> Option<Whole> {
-    let columns = table.width();
-    if table.rows() >= columns || columns >= MOST_COLUMNS || entries.len() != table.rows() {
+/// The table after a pivot, by the numbers of the column that enters, if its numbers are small
+/// enough.
+fn turned(table: &Whole, row: usize, column: &[i64]) -> Option<Whole> {
+    if row >= table.rows() || column.len() != table.rows() || column[row] == 0 {
         return None;
     }
-    match table.with_column(entries) {
-        Ok(made) => made,
-        Err(_) => None,
-    }
-}
-
-/// The table after a pivot, if its numbers are small enough.
-fn pivoted(table: &Whole, row: usize, column: usize) -> Option<Whole> {
-    if row >= table.rows() || column >= table.width() || table.entry(row, column).is_zero() {
-        return None;
+    for number in column {
+        if number.unsigned_abs() >= 1 << 62 {
+            return None;
+        }
     }
     // Called once: a law, no more than a read.
     table.pivots_are_narrow(row, column);
     match table.after_pivot(row, column) {
         Ok(made) => made,
         Err(_) => None,
+    }
+}
+
+/// The table after a pivot that makes a kept column enter, if its numbers are small enough.
+fn pivoted(table: &Whole, row: usize, column: usize) -> Option<Whole> {
+    if column >= table.width() {
+        return None;
+    }
+    match table.column(column) {
+        Ok(numbers) => turned(table, row, &numbers),
+        Err(_) => None,
+    }
+}
+
+/// The table after a pivot that makes the column of some entries enter, if its numbers are small
+/// enough.
+fn entered(table: &Whole, row: usize, entries: &[i64]) -> Option<Whole> {
+    if entries.len() >= table.width() {
+        return None;
+    }
+    match table.column_of(entries) {
+        Ok(Some(numbers)) => turned(table, row, &numbers),
+        _ => None,
     }
 }
 
@@ -61,43 +77,48 @@ fn plus(table: &Whole, sum: &WholeSum, cost: i8, row: usize, column: usize) -> O
     table.sum_with(sum, cost, row, column)
 }
 
-/// Costs times the entries of three rows in a column, if the sums stay small.
-fn sum_of(table: &Whole, costs: [i8; 3], column: usize) -> Option<Fraction> {
-    let first = plus(table, &WholeSum::zero(), costs[0], 0, column)?;
-    let second = plus(table, &first, costs[1], 1, column)?;
-    let third = plus(table, &second, costs[2], 2, column)?;
+/// Costs times the entries of three homes in their own rows, if the sums stay small.
+fn sum_of(table: &Whole, costs: [i8; 3]) -> Option<Fraction> {
+    let first = plus(table, &WholeSum::zero(), costs[0], 0, 1)?;
+    let second = plus(table, &first, costs[1], 1, 2)?;
+    let third = plus(table, &second, costs[2], 2, 3)?;
     Some(third.fraction())
 }
 
 /// Whether the sum is the fraction of a numerator and a denominator.
-fn is_sum(table: &Whole, costs: [i8; 3], column: usize, expected: (i128, i128)) -> bool {
-    match sum_of(table, costs, column) {
+fn is_sum(table: &Whole, costs: [i8; 3], expected: (i128, i128)) -> bool {
+    match sum_of(table, costs) {
         Some(sum) => is_fraction(&sum, expected),
         None => false,
     }
 }
 
-/// Rows 1, 1, 0, 2, 1 and 0, 0, 1, 3, -1 of two homes, after a pivot on the 2.
+/// Rows 1, 1, 0 and 0, 0, 1 of two homes, after a pivot on the 2 of the entries 2 and 3.
 fn halves(homes: &Whole) -> Option<Whole> {
-    pivoted(&wider(&wider(homes, &[2, 3])?, &[1, -1])?, 0, 3)
+    entered(homes, 0, &[2, 3])
 }
 
-/// With a column of 4 and 6 more, after a pivot on -3/2 in the second row.
+/// After a pivot on -3/2 in the second row.
 fn thirds(homes: &Whole) -> Option<Whole> {
-    pivoted(&wider(&halves(homes)?, &[4, 6])?, 1, 1)
+    pivoted(&halves(homes)?, 1, 1)
 }
 
 /// The rows behind `halves`.
-const HALVES: [[(i128, i128); 5]; 2] = [
-    [(1, 2), (1, 2), (0, 1), (1, 1), (1, 2)],
-    [(-3, 2), (-3, 2), (1, 1), (0, 1), (-5, 2)],
-];
+const HALVES: [[(i128, i128); 3]; 2] = [[(1, 2), (1, 2), (0, 1)], [(-3, 2), (-3, 2), (1, 1)]];
 
 /// The rows behind `thirds`.
-const THIRDS: [[(i128, i128); 6]; 2] = [
-    [(0, 1), (0, 1), (1, 3), (1, 1), (-1, 3), (2, 1)],
-    [(1, 1), (1, 1), (-2, 3), (0, 1), (5, 3), (0, 1)],
-];
+const THIRDS: [[(i128, i128); 3]; 2] = [[(0, 1), (0, 1), (1, 3)], [(1, 1), (1, 1), (-2, 3)]];
+
+/// Whether a row of the column of some entries is this.
+fn has_cell(table: &Whole, row: usize, entries: &[i64], expected: (i128, i128)) -> bool {
+    if row >= table.rows() || entries.len() >= table.width() {
+        return false;
+    }
+    match table.cell_of(entries, row) {
+        Some(cell) => is_fraction(&cell, expected),
+        None => false,
+    }
+}
 
 /// Whether the first rows are the right side and the homes.
 fn are_homes(table: &Whole) -> bool {
@@ -107,7 +128,12 @@ fn are_homes(table: &Whole) -> bool {
 /// Whether the rows are these after the first pivot.
 fn are_halves(homes: &Whole) -> bool {
     match halves(homes) {
-        Some(table) => has_row(&table, 0, &HALVES[0]) && has_row(&table, 1, &HALVES[1]),
+        Some(table) => {
+            has_row(&table, 0, &HALVES[0])
+                && has_row(&table, 1, &HALVES[1])
+                && has_cell(&table, 0, &[1, -1], (1, 2))
+                && has_cell(&table, 1, &[1, -1], (-5, 2))
+        }
         None => false,
     }
 }
@@ -115,7 +141,12 @@ fn are_halves(homes: &Whole) -> bool {
 /// Whether the rows are these after the second pivot.
 fn are_thirds(homes: &Whole) -> bool {
     match thirds(homes) {
-        Some(table) => has_row(&table, 0, &THIRDS[0]) && has_row(&table, 1, &THIRDS[1]),
+        Some(table) => {
+            has_row(&table, 0, &THIRDS[0])
+                && has_row(&table, 1, &THIRDS[1])
+                && has_cell(&table, 0, &[4, 6], (2, 1))
+                && has_cell(&table, 1, &[1, -1], (5, 3))
+        }
         None => false,
     }
 }
@@ -131,32 +162,29 @@ fn pivots_and_columns(rt: HostRuntime) -> Result<(), Fail> {
 
 /// A row loses 2^61 times 5, which is more than 2^62.
 fn is_too_large(homes: &Whole) -> Option<bool> {
-    let table = wider(&wider(homes, &[1 << 61, 1])?, &[3, 5])?;
-    Some(pivoted(&table, 1, 3).is_none())
+    let table = entered(homes, 0, &[1, 1 << 61])?;
+    Some(entered(&table, 0, &[5, 3]).is_none())
 }
 
 #[test]
 fn numbers_of_two_to_the_62_are_not_kept(rt: HostRuntime) -> Result<(), Fail> {
     let homes = Whole::of_homes(rt.alloc(), 2)?;
-    assert!(rt; wider(&homes, &[(1 << 62) - 1, 0]).is_some());
-    assert!(rt; wider(&homes, &[1 << 62, 0]).is_none());
+    assert!(rt; has_cell(&homes, 0, &[(1 << 62) - 1, 0], ((1 << 62) - 1, 1)));
+    assert!(rt; !has_cell(&homes, 0, &[1 << 62, 0], (1 << 62, 1)));
     assert!(rt; is_too_large(&homes) == Some(true));
     Ok(())
 }
 
-/// Three rows, each divided by one of the numbers, and a column in which the entries are 1 over
-/// these numbers.
+/// Three rows, each divided by one of the numbers.
 fn divided_rows(homes: &Whole, by: [i64; 3]) -> Option<Whole> {
-    let first = pivoted(&wider(homes, &[by[0], 0, 0])?, 0, 4)?;
-    let second = pivoted(&wider(&first, &[0, by[1], 0])?, 1, 5)?;
-    let third = pivoted(&wider(&second, &[0, 0, by[2]])?, 2, 6)?;
-    wider(&third, &[1, 1, 1])
+    let first = entered(homes, 0, &[by[0], 0, 0])?;
+    let second = entered(&first, 1, &[0, by[1], 0])?;
+    entered(&second, 2, &[0, 0, by[2]])
 }
 
-/// Costs of three rows, a column, and the sum of the costs times its entries.
+/// Costs of three rows, and the sum of the costs times the homes' entries in their own rows.
 struct Sum {
     costs: [i8; 3],
-    column: usize,
     expected: (i128, i128),
 }
 
@@ -164,35 +192,30 @@ struct Sum {
 const SUMS: [Sum; 5] = [
     Sum {
         costs: [1, 1, 1],
-        column: 7,
         expected: (13, 12),
     },
     Sum {
         costs: [1, -1, 0],
-        column: 7,
         expected: (1, 6),
     },
     Sum {
         costs: [-1, 0, -1],
-        column: 7,
         expected: (-3, 4),
     },
     Sum {
         costs: [0, 0, 0],
-        column: 7,
         expected: (0, 1),
     },
     Sum {
-        costs: [1, 1, 1],
-        column: 5,
-        expected: (1, 1),
+        costs: [0, 1, 0],
+        expected: (1, 3),
     },
 ];
 
 /// The place of the first sum that isn't as expected.
 fn wrong_sum(table: &Whole) -> Option<usize> {
     SUMS.iter()
-        .position(|sum| !is_sum(table, sum.costs, sum.column, sum.expected))
+        .position(|sum| !is_sum(table, sum.costs, sum.expected))
 }
 
 #[test]
@@ -209,7 +232,7 @@ fn sums_over_a_long_denominator_are_not_made(rt: HostRuntime) -> Result<(), Fail
     // No two of these have a factor in common, and their product is above 2^182.
     let by = [(1 << 61) - 1, 1 << 61, (1 << 61) + 1];
     let table = divided_rows(&homes, by).expect(&rt, "the numbers are small");
-    assert!(rt; sum_of(&table, [1, 1, 1], 7).is_none());
-    assert!(rt; is_sum(&table, [1, 0, 0], 7, (1, (1 << 61) - 1)));
+    assert!(rt; sum_of(&table, [1, 1, 1]).is_none());
+    assert!(rt; is_sum(&table, [1, 0, 0], (1, (1 << 61) - 1)));
     Ok(())
 }

@@ -1,15 +1,15 @@
 //! Pivots of rows of whole numbers.
-ghost use Rattle.std.specs.Prelude.{◌≡◌, ◌≢◌, ◌*◌, ◌<◌, ◌^◌, pos};
+ghost use Rattle.std.specs.Prelude.{◌≡◌, ◌≢◌, ◌*◌, ◌<◌, ◌^◌, pos, get_or};
 ghost use Rattle.std.specs.Prelude.{unsigned_abs, int_div, ◌*ℤ◌, ◌-ℤ◌};
-ghost use Rattle.ps_whole.specs.Whole.{number_at, under_at};
-ghost use Rattle.ps_whole.specs.Pivots.{raw_number, IsPivotOf, IsRowChange, IsContent};
+ghost use Rattle.ps_whole.specs.Whole.{under_at};
+ghost use Rattle.ps_whole.specs.Pivots.{raw_number, IsNumbers, IsPivotOf, IsRowChange, IsContent};
 
 use crate::change::RowChange;
 use crate::divisors::{gcd_by_rest, gcd_of_words};
 use crate::rows::Whole;
 
 /// A product of two numbers of a table.
-fn product(left: i64, right: i64) -> i128
+pub(crate) fn product(left: i64, right: i64) -> i128
     requires left { unsigned_abs left < 2 ^ 62 }
     requires right { unsigned_abs right < 2 ^ 62 }
     ensures value { result ≡ left *ℤ right }
@@ -29,7 +29,7 @@ fn difference(left: i128, right: i128) -> i128
 }
 
 /// A size as a signed number.
-fn signed_size(size: u64) -> i64
+pub(crate) fn signed_size(size: u64) -> i64
     requires { size < 2 ^ 62 }
     ensures value { result ≡ pos size }
 {
@@ -73,14 +73,24 @@ impl Whole {
         )
     }
 
+    /// The number of a row in a column that enters.
+    fn entering(&self, column: &[i64], row: usize) -> i64
+        requires numbers { IsNumbers self.now column.now }
+        requires row { row < self.now.rows }
+        ensures value { result ≡ get_or column.now row (pos 0) }
+        ensures small { unsigned_abs result < 2 ^ 62 }
+    {
+        column[row]
+    }
+
     /// The entry of a pivot, which isn't 0.
-    fn pivot_number(&self, p: usize, q: usize) -> i64
-        requires { IsPivotOf self.now p q }
-        ensures value { result ≡ number_at self.now p q }
+    fn pivot_number(&self, p: usize, column: &[i64]) -> i64
+        requires pivot { IsPivotOf self.now p column.now }
+        ensures value { result ≡ get_or column.now p (pos 0) }
         ensures small { unsigned_abs result < 2 ^ 62 }
         ensures not_zero { 0 < unsigned_abs result }
     {
-        self.number(p, q)
+        self.entering(column, p)
     }
 
     /// What is common to a denominator and all numbers of a row.
@@ -103,11 +113,11 @@ impl Whole {
     }
 
     /// What becomes of the pivot's row.
-    fn own_change(&self, p: usize, q: usize) -> RowChange
-        requires pivot { IsPivotOf self.now p q }
-        ensures change { IsRowChange self.now p q p result }
+    fn own_change(&self, p: usize, column: &[i64]) -> RowChange
+        requires pivot { IsPivotOf self.now p column.now }
+        ensures change { IsRowChange self.now p column.now p result }
     {
-        let entry = self.pivot_number(p, q);
+        let entry = self.pivot_number(p, column);
         let times = with_sign(1, entry);
         let base = entry.unsigned_abs() as u128;
         RowChange {
@@ -136,14 +146,14 @@ impl Whole {
     }
 
     /// What becomes of another row.
-    fn other_change(&self, p: usize, q: usize, i: usize) -> RowChange
-        requires pivot { IsPivotOf self.now p q }
+    fn other_change(&self, p: usize, column: &[i64], i: usize) -> RowChange
+        requires pivot { IsPivotOf self.now p column.now }
         requires row { i < self.now.rows }
         requires other { i ≢ p }
-        ensures change { IsRowChange self.now p q i result }
+        ensures change { IsRowChange self.now p column.now i result }
     {
-        let entry = self.pivot_number(p, q);
-        let lost = self.number(i, q);
+        let entry = self.pivot_number(p, column);
+        let lost = self.entering(column, i);
         if lost == 0 {
             return self.no_change(i);
         }
@@ -161,14 +171,14 @@ impl Whole {
     }
 
     /// What becomes of a row.
-    pub(crate) fn change(&self, p: usize, q: usize, i: usize) -> RowChange
-        requires pivot { IsPivotOf self.now p q }
+    pub(crate) fn change(&self, p: usize, column: &[i64], i: usize) -> RowChange
+        requires pivot { IsPivotOf self.now p column.now }
         requires row { i < self.now.rows }
-        ensures change { IsRowChange self.now p q i result }
+        ensures change { IsRowChange self.now p column.now i result }
     {
         if i == p {
-            return self.own_change(p, q);
+            return self.own_change(p, column);
         }
-        self.other_change(p, q, i)
+        self.other_change(p, column, i)
     }
 }

@@ -1,17 +1,42 @@
-//! How fast a table is pivoted. The word is a count of pivots of a table of 101 rows and 401
-//! columns; it writes a checksum of the entries, and the time is taken from outside.
+//! How fast a table is pivoted, and how much memory it takes. The words are a count of pivots, of
+//! rows and of worlds, without which the table has 101 rows and 300 worlds; it writes a checksum of
+//! the entries, and time and memory are taken from outside.
 #![tactic(auto)]
 
 use ps_frac::Fraction;
-use ps_table::{Col, Home, MOST_ROWS, Table};
+use ps_table::{Col, Home, MOST_ROWS, Table, WideAt};
 use std::alloc::Global;
 use std::env;
 
-/// How many rows the table has: as many as one may have.
+/// How many rows the table has, where no word says so: as many as one may have.
 const ROWS: u32 = MOST_ROWS as u32;
 
-/// How many worlds have a column.
+/// How many worlds it has, where no word says so.
 const WORLDS: u32 = 300;
+
+/// The most worlds that a word may ask for.
+const MOST_ASKED: u32 = 1_000_000;
+
+/// What the words ask for: how many pivots, and how many rows and worlds.
+#[derive(Clone, Copy)]
+struct Asked {
+    pivots: u64,
+    rows: u32,
+    worlds: u32,
+}
+
+impl Asked {
+    /// The same with the word at this place.
+    fn with(mut self, place: usize, number: u64) -> Asked {
+        match place {
+            1 => self.pivots = number,
+            2 if number <= ROWS as u64 => self.rows = number as u32,
+            3 if number <= MOST_ASKED as u64 => self.worlds = number as u32,
+            _ => (),
+        }
+        self
+    }
+}
 
 /// Small numbers, drawn from a fixed sequence.
 #[derive(Drop)]
@@ -31,19 +56,19 @@ impl Draw {
 }
 
 /// The homes of the rows, of which the first is artificial.
-fn homes(alloc: Global) -> anyhow::Result<Vec<Home>> {
+fn homes(alloc: Global, rows: u32) -> anyhow::Result<Vec<Home>> {
     let mut list = Vec::new(alloc);
     list.push(Home::Artificial)?;
-    for _ in 1..ROWS {
+    for _ in 1..rows {
         list.push(Home::Slack)?;
     }
     Ok(list)
 }
 
 /// The entries of a world, one for each row.
-fn entries(alloc: Global, draw: &mut Draw) -> anyhow::Result<Vec<i64>> {
+fn entries(alloc: Global, rows: u32, draw: &mut Draw) -> anyhow::Result<Vec<i64>> {
     let mut list = Vec::new(alloc);
-    for _ in 0..ROWS {
+    for _ in 0..rows {
         list.push(draw.next())?;
     }
     Ok(list)
@@ -51,7 +76,7 @@ fn entries(alloc: Global, draw: &mut Draw) -> anyhow::Result<Vec<i64>> {
 
 /// Adds the column of a world, where the entries are as many as the rows.
 fn add_world(table: &mut Table, entries: &[i64]) -> bool {
-    if entries.len() != table.rows() as usize || table.worlds() >= WORLDS {
+    if entries.len() != table.rows() as usize || table.worlds() >= MOST_ASKED {
         return false;
     }
     table.add_world(entries).is_ok()
@@ -63,10 +88,13 @@ fn pivot(table: &mut Table, row: u32, col: Col) -> bool {
         Col::Home(home) => home < table.rows(),
         Col::World(world) => 0 < world && world <= table.worlds(),
     };
-    if !inside || row >= table.rows() || table.entry(row, col).is_zero() {
+    if !inside || row >= table.rows() {
         return false;
     }
-    table.pivot(row, col).is_ok()
+    match table.entry(row, col) {
+        Ok(entry) => !entry.is_zero() && table.pivot(row, col).is_ok(),
+        Err(_) => false,
+    }
 }
 
 /// What is kept of a sequence of entries.
@@ -80,6 +108,14 @@ fn mix(sum: u64, entry: &Fraction) -> u64 {
         .wrapping_add(sign)
 }
 
+/// The same, with an entry that may be too large.
+fn mix_entry(sum: u64, entry: Result<Fraction, WideAt>) -> u64 {
+    match entry {
+        Ok(entry) => mix(sum, &entry),
+        Err(_) => sum.wrapping_mul(31),
+    }
+}
+
 /// A checksum of a row's value and entries.
 fn row_sum(table: &Table, row: u32, before: u64) -> u64 {
     if row >= table.rows() {
@@ -87,10 +123,10 @@ fn row_sum(table: &Table, row: u32, before: u64) -> u64 {
     }
     let mut sum = mix(before, &table.value(row));
     for home in 0..table.rows() {
-        sum = mix(sum, &table.entry(row, Col::Home(home)));
+        sum = mix_entry(sum, table.entry(row, Col::Home(home)));
     }
     for world in 0..table.worlds() {
-        sum = mix(sum, &table.entry(row, Col::World(world + 1)));
+        sum = mix_entry(sum, table.entry(row, Col::World(world + 1)));
     }
     sum
 }
@@ -125,31 +161,33 @@ fn pivots(table: &mut Table, count: u64) -> u64 {
     made
 }
 
-/// How many pivots the words ask for.
-fn count_of(rt: &HostRuntime) -> anyhow::Result<u64> {
-    let mut count = 2u64;
+/// What the words ask for.
+fn read_words(rt: &HostRuntime) -> anyhow::Result<Asked> {
+    let mut asked = Asked {
+        pivots: 2,
+        rows: ROWS,
+        worlds: WORLDS,
+    };
     let mut place = 0usize;
     for word in env::args(rt)? {
-        if place == 1 {
-            if let Ok(number) = word.parse::<u64>() {
-                count = number;
-            }
+        if let Ok(number) = word.parse::<u64>() {
+            asked = asked.with(place, number);
         }
         place = place.wrapping_add(1);
     }
-    Ok(count)
+    Ok(asked)
 }
 
 /// The table of the homes and the worlds.
-fn table(alloc: Global) -> anyhow::Result<Option<Table>> {
-    let homes = homes(alloc)?;
+fn table(alloc: Global, asked: Asked) -> anyhow::Result<Option<Table>> {
+    let homes = homes(alloc, asked.rows)?;
     if homes.is_empty() || homes.len() > MOST_ROWS {
         return Ok(None);
     }
     let mut draw = Draw { state: 1 };
     let mut table = Table::new(alloc, &homes)?;
-    for _ in 0..WORLDS {
-        let entries = entries(alloc, &mut draw)?;
+    for _ in 0..asked.worlds {
+        let entries = entries(alloc, table.rows(), &mut draw)?;
         if !add_world(&mut table, &entries) {
             return Ok(None);
         }
@@ -159,11 +197,11 @@ fn table(alloc: Global) -> anyhow::Result<Option<Table>> {
 
 fn main(rt: HostRuntime) -> anyhow::Result<()> {
     let alloc = rt.alloc();
-    let count = count_of(&rt)?;
-    match table(alloc)? {
+    let asked = read_words(&rt)?;
+    match table(alloc, asked)? {
         Some(mut table) => {
             println!(rt; "worlds {}", table.worlds())?;
-            println!(rt; "pivots {}", pivots(&mut table, count))?;
+            println!(rt; "pivots {}", pivots(&mut table, asked.pivots))?;
             println!(rt; "entries {}", checksum(&table))?;
         }
         None => println!(rt; "no table")?,

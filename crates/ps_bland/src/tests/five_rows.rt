@@ -6,7 +6,7 @@ use ps_simplex::Phase;
 use ps_table::{Col, Home, Place};
 
 pub(crate) const FIVE_ROWS: [Case<5>; 2] = [
-    // A sum of what a world carries is too wide, and the world improves.
+    // A product of a world's price is too wide, and the world improves.
     Case {
         homes: [
             Home::Artificial,
@@ -36,13 +36,10 @@ pub(crate) const FIVE_ROWS: [Case<5>; 2] = [
         stages: &[Stage {
             phase: Phase::One,
             end: End::Wide {
-                place: Place::Cost {
-                    col: Col::World(2),
-                    row: 3,
-                },
-                op: Op::Add,
-                left: (85070591730234615875067023894796828672, 1),
-                right: (85070591730234615865843651857942052863, 1),
+                place: Place::PriceTimes { world: 2, home: 1 },
+                op: Op::Mul,
+                left: (-27670116110564327422, 1),
+                right: (-9223372036854775808, 1),
             },
             pivots: &[(Col::World(1), 1)],
             left: 8,
@@ -86,13 +83,10 @@ pub(crate) const FIVE_ROWS: [Case<5>; 2] = [
         stages: &[Stage {
             phase: Phase::One,
             end: End::Wide {
-                place: Place::Cost {
-                    col: Col::World(2),
-                    row: 4,
-                },
-                op: Op::Add,
-                left: (-170141183460469231722463931679029329918, 1),
-                right: (-85070591730234615856620279821087277056, 1),
+                place: Place::PriceTimes { world: 2, home: 1 },
+                op: Op::Mul,
+                left: (-27670116110564327422, 1),
+                right: (9223372036854775807, 1),
             },
             pivots: &[(Col::World(1), 1)],
             left: 8,

@@ -7,7 +7,7 @@ use ps_simplex::Phase;
 use ps_table::{Col, Home, Place, TableCol};
 
 pub(crate) const THREE_ROWS_WIDE: [Case<3>; 7] = [
-    // A difference of the second pivot is too wide.
+    // In a world's column, which isn't kept, a difference would be too wide: no number is.
     Case {
         homes: [Home::Artificial, Home::Artificial, Home::Slack],
         worlds: &[
@@ -19,22 +19,15 @@ pub(crate) const THREE_ROWS_WIDE: [Case<3>; 7] = [
         limit: 9,
         stages: &[Stage {
             phase: Phase::One,
-            end: End::Wide {
-                place: Place::Minus {
-                    row: 2,
-                    col: TableCol::Of(Col::World(3)),
-                },
-                op: Op::Sub,
-                left: (-144179085099239364909240632, 17044500503549),
-                right: (
-                    -90348197166912476522718802927252857951,
-                    76056154431223567146610550,
-                ),
-            },
-            pivots: &[(Col::World(1), 1)],
-            left: 8,
-            values: [(1, 1), (0, 1), (0, 1)],
-            basic: [Col::Home(0), Col::World(1), Col::Home(2)],
+            end: End::Settled(Settled::Feasible),
+            pivots: &[(Col::World(1), 1), (Col::World(2), 0)],
+            left: 7,
+            values: [
+                (17044500503549, 26773264871700),
+                (9728764368151, 26773264871700),
+                (89882250716359067867971783, 8924421623900),
+            ],
+            basic: [Col::World(2), Col::World(1), Col::Home(2)],
         }],
     },
     // A product of the second pivot is too wide.
@@ -109,7 +102,7 @@ pub(crate) const THREE_ROWS_WIDE: [Case<3>; 7] = [
             },
         ],
     },
-    // A difference of the third pivot for the greatest value is too wide.
+    // A product of the fourth pivot for the greatest value is too wide.
     Case {
         homes: [Home::Artificial, Home::Slack, Home::Slack],
         worlds: &[
@@ -148,29 +141,26 @@ pub(crate) const THREE_ROWS_WIDE: [Case<3>; 7] = [
             Stage {
                 phase: Phase::Upper,
                 end: End::Wide {
-                    place: Place::Minus {
-                        row: 2,
-                        col: TableCol::Of(Col::World(4)),
+                    place: Place::Times {
+                        row: 0,
+                        col: TableCol::Right,
                     },
-                    op: Op::Sub,
-                    left: (19731385611737, 15650625727485),
-                    right: (
-                        -67973764830475770940357901772280611916,
-                        24270737847835892185041023042517647439,
-                    ),
+                    op: Op::Mul,
+                    left: (-33700748907732076076241147, 38769596613016880323018435),
+                    right: (17708319615512846505808400, 472375103293872749619414601),
                 },
-                pivots: &[(Col::World(2), 0), (Col::Home(2), 1)],
-                left: 4,
+                pivots: &[(Col::World(2), 0), (Col::Home(2), 1), (Col::World(3), 1)],
+                left: 3,
                 values: [
-                    (1370054801485, 3130125145497),
-                    (7465948404135405754217369, 3130125145497),
-                    (1760070344012, 3130125145497),
+                    (4084715213524051046144004, 7753919322603376064603687),
+                    (7465948404135405754217369, 23261757967810128193811061),
+                    (3541663923102569301161680, 23261757967810128193811061),
                 ],
-                basic: [Col::World(2), Col::Home(2), Col::World(1)],
+                basic: [Col::World(2), Col::World(3), Col::World(1)],
             },
         ],
     },
-    // A ratio is too wide.
+    // A sum of the column that enters is too wide.
     Case {
         homes: [Home::Artificial, Home::Artificial, Home::Artificial],
         worlds: &[
@@ -210,10 +200,17 @@ pub(crate) const THREE_ROWS_WIDE: [Case<3>; 7] = [
             Stage {
                 phase: Phase::Upper,
                 end: End::Wide {
-                    place: Place::Ratio { row: 1 },
-                    op: Op::Div,
-                    left: (18446744073709551614, 92233720368547758075),
-                    right: (9223372036854775809, 5),
+                    place: Place::ColumnPlus {
+                        world: 3,
+                        row: 1,
+                        home: 2,
+                    },
+                    op: Op::Add,
+                    left: (
+                        170141183460469231722463931679029329919,
+                        92233720368547758075,
+                    ),
+                    right: (18446744073709551616, 92233720368547758075),
                 },
                 pivots: &[],
                 left: 6,
@@ -226,7 +223,7 @@ pub(crate) const THREE_ROWS_WIDE: [Case<3>; 7] = [
             },
         ],
     },
-    // The same with no pivot left: no ratio is taken.
+    // The same with no pivot left: the column isn't made.
     Case {
         homes: [Home::Artificial, Home::Artificial, Home::Artificial],
         worlds: &[

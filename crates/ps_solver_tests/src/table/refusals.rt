@@ -1,18 +1,17 @@
 //! Refusals at each kind of place. The operands were computed by Python's `fractions`, by which a
 //! single operation is wide in each case.
 
-use crate::tables::{adds, has_costs, is_fraction, is_inside, pivots};
+use crate::tables::{adds, can_pivot, is_fraction, is_inside, pivots};
 use ps_frac::{Fraction, Op};
-use ps_io::List;
-use ps_table::{Col, Costs, Home, Place, Table, TableCol, TableError, WideAt};
+use ps_table::{Col, Home, Place, Table, TableCol, TableError, WideAt};
 use std::alloc::Global;
 use std::test::Fail;
 
-/// The greatest entry of the worlds.
-const LARGE: i64 = 1 << 21;
+/// A large entry.
+pub(crate) const LARGE: i64 = 1 << 21;
 
 /// `LARGE` to the sixth power.
-const HUGE: i128 = 1 << 126;
+pub(crate) const HUGE: i128 = 1 << 126;
 
 /// A change of a table.
 #[derive(Clone, Copy)]
@@ -23,12 +22,13 @@ enum Change {
 }
 
 /// A table of 9 rows, of which rows 1 to 6 have basic worlds, each with entry `own` in its row and
-/// `next` in the row below; changes that are done; and a change that is refused.
+/// `next` in the row below; changes that are done; and the pivot of a world that is refused.
 struct Case {
     own: i64,
     next: i64,
     done: [Option<Change>; 3],
-    refused: Change,
+    row: u32,
+    world: u32,
     place: Place,
     op: Op,
     left: (i128, i128),
@@ -39,9 +39,14 @@ const CASES: [Case; 5] = [
     Case {
         own: 1,
         next: LARGE,
-        done: [None, None, None],
-        refused: Change::World([0, 2, 0, 0, 0, 0, 0, 0, 0]),
-        place: Place::NewTimes { row: 7, home: 1 },
+        done: [Some(Change::World([0, 2, 0, 0, 0, 0, 0, 0, 0])), None, None],
+        row: 1,
+        world: 7,
+        place: Place::ColumnTimes {
+            world: 7,
+            row: 7,
+            home: 1,
+        },
         op: Op::Mul,
         left: (HUGE, 1),
         right: (2, 1),
@@ -49,9 +54,18 @@ const CASES: [Case; 5] = [
     Case {
         own: 1,
         next: LARGE,
-        done: [None, None, None],
-        refused: Change::World([0, 1, -LARGE, 0, 0, 0, 0, 0, 0]),
-        place: Place::NewPlus { row: 7, home: 2 },
+        done: [
+            Some(Change::World([0, 1, -LARGE, 0, 0, 0, 0, 0, 0])),
+            None,
+            None,
+        ],
+        row: 1,
+        world: 7,
+        place: Place::ColumnPlus {
+            world: 7,
+            row: 7,
+            home: 2,
+        },
         op: Op::Add,
         left: (HUGE, 1),
         right: (HUGE, 1),
@@ -64,7 +78,8 @@ const CASES: [Case; 5] = [
             None,
             None,
         ],
-        refused: Change::Pivot(7, Col::World(7)),
+        row: 7,
+        world: 7,
         place: Place::Scale {
             col: TableCol::Of(Col::Home(1)),
         },
@@ -80,7 +95,8 @@ const CASES: [Case; 5] = [
             None,
             None,
         ],
-        refused: Change::Pivot(7, Col::World(7)),
+        row: 7,
+        world: 7,
         place: Place::Times {
             row: 8,
             col: TableCol::Of(Col::Home(1)),
@@ -97,7 +113,8 @@ const CASES: [Case; 5] = [
             Some(Change::Pivot(7, Col::World(7))),
             Some(Change::World([0, 0, 0, 0, 0, 0, 0, 1, 2])),
         ],
-        refused: Change::Pivot(7, Col::World(8)),
+        row: 7,
+        world: 8,
         place: Place::Minus {
             row: 8,
             col: TableCol::Of(Col::Home(1)),
@@ -108,24 +125,13 @@ const CASES: [Case; 5] = [
     },
 ];
 
-/// What a change answers; `None` where it may not be asked for.
-fn try_change(table: &mut Table, change: Change) -> Option<Result<(), TableError>> {
-    match change {
-        Change::World(entries) => {
-            if table.rows() != 9 || table.worlds() >= 10 {
-                return None;
-            }
-            match table.add_world(&entries) {
-                Ok(_) => Some(Ok(())),
-                Err(refused) => Some(Err(refused)),
-            }
-        }
-        Change::Pivot(row, col) => {
-            if row >= table.rows() || !is_inside(table, col) || table.entry(row, col).is_zero() {
-                return None;
-            }
-            Some(table.pivot(row, col))
-        }
+/// What the pivot of a case answers; `None` where it may not be asked for.
+fn try_pivot(table: &mut Table, case: &Case) -> Option<Result<(), TableError>> {
+    let col = Col::World(case.world);
+    if can_pivot(table, case.row, col) {
+        Some(table.pivot(case.row, col))
+    } else {
+        None
     }
 }
 
@@ -156,7 +162,7 @@ fn link(row: usize, own: i64, next: i64) -> [i64; 9] {
 }
 
 /// Makes worlds basic in rows 1 to 6, one after the other.
-fn is_chained(table: &mut Table, own: i64, next: i64) -> bool {
+pub(crate) fn is_chained(table: &mut Table, own: i64, next: i64) -> bool {
     for row in 1..7u32 {
         let added = adds(table, &link(row as usize, own, next));
         if !added || !pivots(table, row, Col::World(row)) {
@@ -174,16 +180,16 @@ fn is_prepared(table: &mut Table, case: &Case) -> bool {
         && is_done_or_none(table, case.done[2])
 }
 
-/// The entries of all rows, one row after the other.
-fn entries(alloc: Global, table: &Table) -> Result<Vec<Fraction>, Fail> {
+/// The entries of all rows, one row after the other, where they aren't too large.
+fn entries(alloc: Global, table: &Table) -> Result<Vec<Option<Fraction>>, Fail> {
     let mut list = Vec::new(alloc);
     for row in 0..table.rows() {
-        list.push(table.value(row))?;
+        list.push(Some(table.value(row)))?;
         for home in 0..table.rows() {
-            list.push(table.entry(row, Col::Home(home)))?;
+            list.push(table.entry(row, Col::Home(home)).ok())?;
         }
         for world in 0..table.worlds() {
-            list.push(table.entry(row, Col::World(world + 1)))?;
+            list.push(table.entry(row, Col::World(world + 1)).ok())?;
         }
     }
     Ok(list)
@@ -198,26 +204,29 @@ fn basics(alloc: Global, table: &Table) -> Result<Vec<Col>, Fail> {
     Ok(list)
 }
 
+/// Whether the operands that were refused are those of the case.
+fn is_named(wide: &WideAt, case: &Case) -> bool {
+    wide.place == case.place
+        && wide.op == case.op
+        && is_fraction(&wide.left, case.left)
+        && is_fraction(&wide.right, case.right)
+}
+
 /// Whether the refusal is that of the case.
 fn is_refused(answer: Option<Result<(), TableError>>, case: &Case) -> bool {
     match answer {
-        Some(Err(TableError::Wide(wide))) => {
-            wide.place == case.place
-                && wide.op == case.op
-                && is_fraction(&wide.left, case.left)
-                && is_fraction(&wide.right, case.right)
-        }
+        Some(Err(TableError::Wide(wide))) => is_named(&wide, case),
         _ => false,
     }
 }
 
-/// Whether the change of a case is refused, and the table stays as it was.
+/// Whether the pivot of a case is refused, and the table stays as it was.
 fn stays(alloc: Global, table: &mut Table, case: &Case) -> Result<bool, Fail> {
     if !is_prepared(table, case) {
         return Ok(false);
     }
     let before = (entries(alloc, table)?, basics(alloc, table)?);
-    let is_named = is_refused(try_change(table, case.refused), case);
+    let is_named = is_refused(try_pivot(table, case), case);
     let after = (entries(alloc, table)?, basics(alloc, table)?);
     Ok(is_named && before.0 == after.0 && before.1 == after.1)
 }
@@ -232,59 +241,24 @@ fn wide_places_are_named(rt: HostRuntime) -> Result<(), Fail> {
     Ok(())
 }
 
-/// Costs of 1 for a home and a world, and of 0 for the rest.
-fn costs(alloc: Global, home: usize, world: usize) -> Result<Costs, Fail> {
-    let mut homes = [0i8; 9];
-    let mut worlds = [0i8; 7];
-    if home < 9 && world < 7 {
-        homes[home] = 1;
-        worlds[world] = 1;
+/// Whether the entry of the case's world in row 7 is refused as its pivot is.
+fn is_entry_refused(table: &mut Table, case: &Case) -> bool {
+    let col = Col::World(case.world);
+    if !is_prepared(table, case) || table.rows() <= 7 || !is_inside(table, col) {
+        return false;
     }
-    let mut home_list = Vec::new(alloc);
-    home_list.extend_from_slice(&homes)?;
-    let mut world_list = Vec::new(alloc);
-    world_list.extend_from_slice(&worlds)?;
-    Ok(Costs {
-        homes: List::from_vec(home_list),
-        worlds: List::from_vec(world_list),
-    })
-}
-
-/// Whether the sum of two huge numbers was refused in row 8 of home 1.
-fn is_sum_refused(answer: Result<Fraction, WideAt>) -> bool {
-    match answer {
-        Err(wide) => {
-            let col = Col::Home(1);
-            wide.place == Place::Cost { col, row: 8 }
-                && wide.op == Op::Add
-                && is_fraction(&wide.left, (HUGE, 1))
-                && is_fraction(&wide.right, (HUGE, 1))
-        }
+    match table.entry(7, col) {
+        Err(wide) => is_named(&wide, case),
         Ok(_) => false,
     }
 }
 
-/// Makes the table whose rows carry too much of home 1.
-fn is_heavy(table: &mut Table) -> bool {
-    is_chained(table, 1, LARGE)
-        && adds(table, &[0, 0, 0, 0, 0, 0, 0, 1, -1])
-        && pivots(table, 7, Col::World(7))
-}
-
-/// Whether what is carried of home 1, and its multiplier, are refused.
-fn are_sums_refused(table: &Table, costs: &Costs) -> bool {
-    has_costs(table, costs)
-        && is_inside(table, Col::Home(1))
-        && is_sum_refused(table.carried(costs, Col::Home(1)))
-        && is_sum_refused(table.multiplier(costs, 1))
-}
-
 #[test]
-fn wide_sums_are_named(rt: HostRuntime) -> Result<(), Fail> {
+fn wide_entries_are_named(rt: HostRuntime) -> Result<(), Fail> {
     let alloc = rt.alloc();
-    let costs = costs(alloc, 8, 6)?;
-    let mut table = Table::new(alloc, &[Home::Slack; 9])?;
-    assert!(rt; is_heavy(&mut table));
-    assert!(rt; are_sums_refused(&table, &costs));
+    for case in &CASES[..2] {
+        let mut table = Table::new(alloc, &[Home::Slack; 9])?;
+        assert!(rt; is_entry_refused(&mut table, case));
+    }
     Ok(())
 }

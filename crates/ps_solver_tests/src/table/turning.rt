@@ -9,12 +9,12 @@ use std::test::Fail;
 /// 2^62, too large for a row of whole numbers.
 const LARGE: i64 = 1 << 62;
 
-/// 3 - 5 * 2^61.
-const LOST: i128 = -11529215046068469757;
+/// 3 - 5 * 2^62.
+const LOST: i128 = -23058430092136939517;
 
 /// Makes a world of entry 3 basic, so that a world of entry 2^62 has entry 2^62/3 and one of entry
 /// 6 has entry 2.
-fn turns_by_a_world(table: &mut Table) -> bool {
+fn has_a_large_world(table: &mut Table) -> bool {
     adds(table, &[3])
         && pivots(table, 0, Col::World(1))
         && adds(table, &[LARGE])
@@ -22,7 +22,7 @@ fn turns_by_a_world(table: &mut Table) -> bool {
 }
 
 /// Whether the row is 1/3, 1/3, 1, 2^62/3, 2.
-fn is_turned_by_a_world(table: &Table) -> bool {
+fn is_of_a_large_world(table: &Table) -> bool {
     has_value(table, 0, (1, 3))
         && has_entry(table, 0, Col::Home(0), (1, 3))
         && has_entry(table, 0, Col::World(1), (1, 1))
@@ -46,11 +46,11 @@ fn carries_quotients(table: &Table, costs: &Costs) -> bool {
 }
 
 #[test]
-fn a_new_world_turns_rows_to_fractions(rt: HostRuntime) -> Result<(), Fail> {
+fn a_pivot_on_a_large_world_turns_rows_to_fractions(rt: HostRuntime) -> Result<(), Fail> {
     let alloc = rt.alloc();
     let mut table = Table::new(alloc, &[Home::Artificial])?;
     let costs = costs_of(alloc, &[0], &[0, 1, 0])?;
-    assert!(rt; turns_by_a_world(&mut table) && is_turned_by_a_world(&table));
+    assert!(rt; has_a_large_world(&mut table) && is_of_a_large_world(&table));
     assert!(rt;
         pivots(&mut table, 0, Col::World(2))
             && is_divided(&table)
@@ -59,16 +59,16 @@ fn a_new_world_turns_rows_to_fractions(rt: HostRuntime) -> Result<(), Fail> {
     Ok(())
 }
 
-/// Adds worlds of entries 2^61, 1 and 3, 5, and makes the first of them basic in the second row.
+/// Adds worlds of entries 2^62, 1 and 3, 5, and makes the first of them basic in the second row.
 fn turns_by_a_pivot(table: &mut Table) -> bool {
-    adds(table, &[1 << 61, 1]) && adds(table, &[3, 5]) && pivots(table, 1, Col::World(1))
+    adds(table, &[LARGE, 1]) && adds(table, &[3, 5]) && pivots(table, 1, Col::World(1))
 }
 
-/// Whether the rows are 1, 1, -2^61, 0, 3 - 5 * 2^61 and 0, 0, 1, 1, 5.
+/// Whether the rows are 1, 1, -2^62, 0, 3 - 5 * 2^62 and 0, 0, 1, 1, 5.
 fn is_turned_by_a_pivot(table: &Table) -> bool {
     has_value(table, 0, (1, 1))
         && has_entry(table, 0, Col::Home(0), (1, 1))
-        && has_entry(table, 0, Col::Home(1), (-(1 << 61), 1))
+        && has_entry(table, 0, Col::Home(1), (-(1 << 62), 1))
         && has_entry(table, 0, Col::World(1), (0, 1))
         && has_entry(table, 0, Col::World(2), (LOST, 1))
         && has_value(table, 1, (0, 1))
@@ -86,7 +86,7 @@ fn a_pivot_turns_rows_to_fractions(rt: HostRuntime) -> Result<(), Fail> {
     assert!(rt; turns_by_a_pivot(&mut table) && is_turned_by_a_pivot(&table));
     assert!(rt;
         carries(&table, &costs, Col::World(2), (5 - LOST, 1))
-            && carries(&table, &costs, Col::Home(1), ((1 << 61) + 1, 1))
+            && carries(&table, &costs, Col::Home(1), ((1 << 62) + 1, 1))
     );
     Ok(())
 }

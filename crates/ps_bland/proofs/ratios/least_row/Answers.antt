@@ -6,7 +6,7 @@ use Rattle.ps_bland.proofs.ratios.least_row.Goals as goal
 
 pub loop-row-init : goal.loop-row-init
 loop-row-init c = record {
-  best = first_least c.args.table.now (number_in (length c.args.table.now.kinds) c.args.col) c.first_rising-first.result c.first_rising-first.ensures.rising c.first_rising-first.ensures.first;
+  best = first_least c.args.table.now (number_in (length c.args.table.now.kinds) c.args.col) c.in_ok-first.first c.in_ok-first.ensures.rising c.in_ok-first.ensures.first;
   best_ratio = c.in_ok-ratio.ensures.value;
 }
 

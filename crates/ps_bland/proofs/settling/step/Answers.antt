@@ -6,8 +6,7 @@ use Rattle.ps_table.specs.Tableau.{Tableau, number_in, number_of, HasColumn}
 use Rattle.ps_table.specs.Pricing.{cost_at}
 use Rattle.ps_bland.specs.Rules.{simplex_of, IsLawful, IsDueToEndIn}
 use Rattle.ps_bland.specs.Ends.{IsDueRefusal}
-use Rattle.ps_bland.specs.Ends.IsDueWide.{at_ratio}
-use Rattle.ps_bland.proofs.Steps.{due_refusal}
+use Rattle.ps_bland.proofs.Steps.{due_refusal, leaving_due}
 use Rattle.ps_bland.proofs.Counts.{event_counted}
 use Rattle.ps_bland.proofs.Due.{rest_narrow, out_narrow}
 use Rattle.ps_bland.proofs.Ready.{can_leave, ready_kept}
@@ -29,7 +28,7 @@ returns-in_err-leave-clause-refused c =
     let unfinished : IsDueToEndIn c.args.phase t → ⊥ = search rules in
     let some : 0 < c.args.left.now = search rules in
     let e : c.from_residual-in_err-leave.result ≡ Err (refused.Wide w) = search rules in
-    rw e (at_ratio c.in-Some.enter unfinished some inside enters c.in_err-leave.ensures.ratios c.in_err-leave.ensures.refused)
+    rw e (leaving_due c.args.phase c.args.costs.now t c.args.left.now c.in-Some.enter w unfinished some inside enters c.in_err-leave.ensures.refused)
 
 pub returns-in_err-pivot_with_event-clause-refused : goal.returns-in_err-pivot_with_event-clause-refused
 returns-in_err-pivot_with_event-clause-refused c =

@@ -9,7 +9,8 @@ use Rattle.ps_answer.specs.Words.{Column}
 use Rattle.ps_reader.specs.Cursor.{words_in, later}
 use Rattle.ps_reader.specs.Read.{IsWordRead}
 use Rattle.ps_reader.specs.Places.{IsPlaceRead}
-use Rattle.ps_reader.proofs.PlaceWords.{cost_read, mapped, mapped_err}
+use Rattle.ps_reader.proofs.Cut.{mapped}
+use Rattle.ps_reader.proofs.PlaceWords.{cost_read, mapped_err}
 use Rattle.ps_reader.proofs.places.cost.Goals as goal
 
 pub returns-in_err-col : goal.returns-in_err-col

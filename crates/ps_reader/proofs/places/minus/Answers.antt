@@ -8,7 +8,8 @@ use Rattle.ps_answer.specs.Items.{count, shown_word, IsShownWithin}
 use Rattle.ps_reader.specs.Cursor.{words_in, later}
 use Rattle.ps_reader.specs.Read.{IsWordRead}
 use Rattle.ps_reader.specs.Places.{IsPlaceRead}
-use Rattle.ps_reader.proofs.PlaceWords.{minus_read, mapped, mapped_err}
+use Rattle.ps_reader.proofs.Cut.{mapped}
+use Rattle.ps_reader.proofs.PlaceWords.{minus_read, mapped_err}
 use Rattle.ps_reader.proofs.places.minus.Goals as goal
 
 pub returns-in_err-row : goal.returns-in_err-row

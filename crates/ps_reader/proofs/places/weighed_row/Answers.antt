@@ -7,7 +7,8 @@ use Rattle.ps_answer.specs.Items.{count}
 use Rattle.ps_reader.specs.Cursor.{words_in}
 use Rattle.ps_reader.specs.Read.{IsWordRead}
 use Rattle.ps_reader.specs.Places.{IsPlaceRead}
-use Rattle.ps_reader.proofs.PlaceWords.{weighed_read, mapped, mapped_err}
+use Rattle.ps_reader.proofs.Cut.{mapped}
+use Rattle.ps_reader.proofs.PlaceWords.{weighed_read, mapped_err}
 use Rattle.ps_reader.proofs.places.weighed_row.Goals as goal
 
 pub returns-in_err-row : goal.returns-in_err-row

@@ -11,8 +11,8 @@ returns-clause-refused c =
     let g = c.args.grid.now in
     let p = c.args.pivot.now in
     refused_at (GridPivotPlaces g p) c.times_at.result _ _ _ _ _ _
-    c.cell.ensures.value (c.requires.scaled ∙ ap (scaled_in g p) (sym c.column_shown.ensures.number)) c.times_at.ensures.operands c.times_at.ensures.wide.0
+    c.entry.ensures.value (c.requires.scaled ∙ ap (scaled_in g p) (sym c.column_shown.ensures.number)) c.times_at.ensures.operands c.times_at.ensures.wide.0
     (at_times c.args.row c.column_shown.result c.requires.cell.row c.requires.cell.other c.column_shown.ensures.shown)
 
 pub returns-clause-narrow : goal.returns-clause-narrow
-returns-clause-narrow c = narrow_as c.times_at.result Mul _ _ _ _ c.cell.ensures.value c.requires.scaled c.times_at.ensures.wide.1
+returns-clause-narrow c = narrow_as c.times_at.result Mul _ _ _ _ c.entry.ensures.value c.requires.scaled c.times_at.ensures.wide.1

@@ -1,5 +1,5 @@
 use Rattle.std.proofs.Common.{◌≡◌, ◌*◌, ◌+◌, suc, length, arith, sym, ap, subst}
-use Rattle.ps_table.specs.Grids.{cell_in, IsScaleNarrow}
+use Rattle.ps_table.specs.Grids.{cell_in, enters, IsScaleNarrow}
 use Rattle.ps_table.specs.Changes.{IsUpTo}
 use Rattle.ps_table.proofs.Narrow.{all_more, pivot_narrow}
 use Rattle.ps_table.proofs.Changes.{up_none, up_all}
@@ -22,14 +22,14 @@ loop-column-preserved c = record {
 pub returns-clause-pivoted : goal.returns-clause-pivoted
 returns-clause-pivoted c =
     let g = c.args.grid.now in
-    let e : c.loop-column.column ≡ suc (g.rows + g.worlds) = omega (arith, c.loop-column-test.false, c.width-column-end.ensures.value, c.loop-column.auto) in
+    let e : c.loop-column.column ≡ suc g.rows = omega (arith, c.loop-column-test.false, c.width-column-end.ensures.value, c.loop-column.auto) in
     up_all g c.args.pivot.now (c.loop-column.column * g.rows) _ (subst (λ w. length g.cells ≡ w * g.rows) (sym e) c.requires.pivot.grid.size) c.loop-column.invariant.upto
 
 pub returns-clause-narrow : goal.returns-clause-narrow
 returns-clause-narrow c =
     let g = c.args.grid.now in
     let p = c.args.pivot.now in
-    let e : c.loop-column.column ≡ suc (g.rows + g.worlds) = omega (arith, c.loop-column-test.false, c.width-column-end.ensures.value, c.loop-column.auto) in
-    pivot_narrow g.rows g.worlds p.row p.column (length g.cells) (cell_in g) c.requires.pivot.grid.size
+    let e : c.loop-column.column ≡ suc g.rows = omega (arith, c.loop-column-test.false, c.width-column-end.ensures.value, c.loop-column.auto) in
+    pivot_narrow g.rows p.row (length g.cells) (cell_in g) (enters p) c.requires.pivot.grid.size
     (λ j l. c.loop-column.invariant.narrow j (omega (arith, e, l)))
     (λ k l. c.loop-column.invariant.upto.narrow k (omega (arith, ap (λ w. w * g.rows) e, c.requires.pivot.grid.size, l)))

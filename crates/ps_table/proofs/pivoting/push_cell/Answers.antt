@@ -1,7 +1,7 @@
 use Rattle.std.proofs.Common.{◌≡◌, ◌≢◌, ◌<◌, arith, rules, subst, ◌∙◌}
 use Rattle.ps_meaning.specs.Rational.{Rational, zero_q}
 use Rattle.ps_meaning.specs.Wide.{Fits, size_limit}
-use Rattle.ps_table.specs.Grids.{cell_in}
+use Rattle.ps_table.specs.Grids.{cell_in, enters}
 use Rattle.ps_table.proofs.Zeros.{own_scaled}
 use Rattle.ps_table.proofs.Changes.{up_zero, up_pushed}
 use Rattle.ps_table.proofs.pivoting.push_cell.Goals as goal
@@ -18,10 +18,10 @@ returns-then-is_zero-clause-after c =
     let g = c.args.grid.now in
     let p = c.args.pivot.now in
     let other : c.args.row ≢ p.row = omega arith in
-    let nothing : cell_in g c.args.row p.column ≡ zero_q = search rules in
+    let nothing : enters p c.args.row ≡ zero_q = search rules in
     up_zero g p c.args.row c.args.column c.args.changes.now.items c.requires.row other nothing
-    (subst (λ (k : Rational). Fits k.over) c.cell-then-is_zero.ensures.value c.fits.ensures.over)
-    (subst (λ (k : Rational). k.under < size_limit) c.cell-then-is_zero.ensures.value c.fits.ensures.under)
+    (subst (λ (k : Rational). Fits k.over) c.cell.ensures.value c.fits.ensures.over)
+    (subst (λ (k : Rational). k.under < size_limit) c.cell.ensures.value c.fits.ensures.under)
     c.requires.before
 
 pub returns-clause-after : goal.returns-clause-after

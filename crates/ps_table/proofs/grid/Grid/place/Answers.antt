@@ -6,8 +6,8 @@ use Rattle.ps_table.proofs.grid.Grid.place.Goals as goal
 pub returns-clause-within : goal.returns-clause-within
 returns-clause-within c =
     let n = c.self.inside.rows in
-    let w = suc (n + c.self.inside.worlds) in
+    let w = suc n in
     let hr : c.args.row < n = subst (λ (g : GridCells). c.args.row < g.rows) (sym c.self.view_is) c.requires.row in
-    let hc : c.args.column < w = subst (λ (g : GridCells). c.args.column < suc (g.rows + g.worlds)) (sym c.self.view_is) c.requires.column in
+    let hc : c.args.column < w = subst (λ (g : GridCells). c.args.column < suc g.rows) (sym c.self.view_is) c.requires.column in
     subst (λ (g : GridCells). c.args.column * c.self.inside.rows + c.args.row < length g.cells) c.self.view_is
     (cell_within c.args.row c.args.column n w (length c.self.inside.cells.now) hr hc c.self.invariant.size)

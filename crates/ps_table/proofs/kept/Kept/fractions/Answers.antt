@@ -2,4 +2,4 @@ use Rattle.ps_table.proofs.KeptCells.{kept_is_grid}
 use Rattle.ps_table.proofs.kept.Kept.fractions.Goals as goal
 
 pub returns-in-Whole-clause-grid : goal.returns-in-Whole-clause-grid
-returns-in-Whole-clause-grid c = kept_is_grid c.self.inside.rows c.self.inside.worlds c.self.inside.cells c.args.self.now c.self.invariant c.self.view_is
+returns-in-Whole-clause-grid c = kept_is_grid c.self.inside.rows c.self.inside.cells c.args.self.now c.self.invariant c.self.view_is

@@ -11,7 +11,7 @@ returns-in-Whole c =
     let g = c.args.self.now in
     let i = c.args.row in
     let j = c.args.column in
-    let h = kept_is_whole c.self.inside.rows c.self.inside.worlds c.self.inside.cells w g c.self.invariant c.in-Whole.is c.self.view_is in
+    let h = kept_is_whole c.self.inside.rows c.self.inside.cells w g c.self.invariant c.in-Whole.is c.self.view_is in
     let f : FitsSigned w8 c.args.cost = search rules in
     let sum : IfSome c.sum_with.result (IsSumWith c.args.sum.now c.args.cost (whole_at w i j)) =
     subst (λ z. IfSome c.sum_with.result (IsSumWith c.args.sum.now z (whole_at w i j))) (to_z-of_z w8 c.args.cost f) c.sum_with.ensures.sum in

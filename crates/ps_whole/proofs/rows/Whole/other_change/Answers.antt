@@ -1,4 +1,4 @@
-use Rattle.std.proofs.Common.{◌≡◌, ◌<◌, ◌*◌, ◌/◌, pos, ◌*ℤ◌, unsigned_abs, int_div, arith, subst, sym, ap, ◌∙◌, rules, FitsSigned, to_z, of_z, w64}
+use Rattle.std.proofs.Common.{get_or, ◌≡◌, ◌<◌, ◌*◌, ◌/◌, pos, ◌*ℤ◌, unsigned_abs, int_div, arith, subst, sym, ap, ◌∙◌, rules, FitsSigned, to_z, of_z, w64}
 use Rattle.std.specs.Int.{IsGcd, ◌∣◌}
 use Rattle.std.proofs.lemmas.Int.{ints, to_z-of_z}
 use Rattle.std.proofs.Math.Nat.{mul-pos, div-le_self}
@@ -20,18 +20,18 @@ content-requires-clause-base c =
 
 pub returns-then-lost-eq0 : goal.returns-then-lost-eq0
 returns-then-lost-eq0 c =
-    let zero : c.number-lost.result ≡ pos 0 = omega (arith, ints) in
-    let lost : number_at c.args.self.now c.args.i c.args.q ≡ pos 0 = sym c.number-lost.ensures.value ∙ zero in
-    record { change = kept_change c.args.self.now c.args.p c.args.q c.args.i c.no_change.result c.requires.other lost c.no_change.ensures.times c.no_change.ensures.less c.no_change.ensures.base c.no_change.ensures.positive c.no_change.ensures.by }
+    let zero : c.entering-lost.result ≡ pos 0 = omega (arith, ints) in
+    let lost : get_or c.args.column.now c.args.i (pos 0) ≡ pos 0 = sym c.entering-lost.ensures.value ∙ zero in
+    record { change = kept_change c.args.self.now c.args.p c.args.column.now c.args.i c.no_change.result c.requires.other lost c.no_change.ensures.times c.no_change.ensures.less c.no_change.ensures.base c.no_change.ensures.positive c.no_change.ensures.by }
 
 pub returns : goal.returns
 returns c =
     let w = c.args.self.now in
     let p = c.args.p in
-    let q = c.args.q in
+    let column = c.args.column.now in
     let i = c.args.i in
     let a = c.pivot_number-entry.result in
-    let k = c.number-lost.result in
+    let k = c.entering-lost.result in
     let s = c.with_sign-less.result in
     let g = c.gcd_of_words-g.result in
     let t = c.unsigned_abs-3.result / g in
@@ -44,8 +44,8 @@ returns c =
     let s1 : c.unsigned_abs.result ≡ unsigned_abs k = c.unsigned_abs.ensures.value ∙ ap unsigned_abs (to_z-of_z w64 k fk) in
     let s2 : c.unsigned_abs-2.result ≡ unsigned_abs a = c.unsigned_abs-2.ensures.value ∙ ap unsigned_abs (to_z-of_z w64 a fa) in
     let s3 : c.unsigned_abs-3.result ≡ unsigned_abs a = c.unsigned_abs-3.ensures.value ∙ ap unsigned_abs (to_z-of_z w64 a fa) in
-    let va : a ≡ number_at w p q = c.pivot_number-entry.ensures.value in
-    let vk : k ≡ number_at w i q = c.number-lost.ensures.value in
+    let va : a ≡ get_or column p (pos 0) = c.pivot_number-entry.ensures.value in
+    let vk : k ≡ get_or column i (pos 0) = c.entering-lost.ensures.value in
     let common : IsGcd (unsigned_abs k) (unsigned_abs a) g =
     subst (λ n. IsGcd n (unsigned_abs a) g) s1 (subst (λ n. IsGcd c.unsigned_abs.result n g) s2 c.gcd_of_words-g.ensures.value) in
     let fh : FitsSigned w64 c.cofactor.result = search rules in
@@ -64,8 +64,8 @@ returns c =
         content = subst (λ z. IsContent (raw_number w p i (pos t) z) w.width (c.under.result * t) c.content.result) es (subst (λ z. IsContent (raw_number w p i z (to_z w64 (of_z w64 s))) w.width (c.under.result * t) c.content.result) et c.content.ensures.common);
         cells = λ j. record {
           own = λ same. absurd (c.requires.other same);
-          other = λ _. other_cell (number_at w i j) (number_at w i q) (number_at w p j) (number_at w p q) s (under_at w i) (under_at w p) (c.under.result * t) t
-              c.requires.pivot.not_zero hd ht (subst (λ z. s *ℤ z ≡ number_at w i q *ℤ pos t) va (less ∙ ap (λ z. z *ℤ pos t) vk)) (ap (λ n. n * t) d);
+          other = λ _. other_cell (number_at w i j) (get_or column i (pos 0)) (number_at w p j) (get_or column p (pos 0)) s (under_at w i) (under_at w p) (c.under.result * t) t
+              c.requires.pivot.not_zero hd ht (subst (λ z. s *ℤ z ≡ get_or column i (pos 0) *ℤ pos t) va (less ∙ ap (λ z. z *ℤ pos t) vk)) (ap (λ n. n * t) d);
         };
       };
     })

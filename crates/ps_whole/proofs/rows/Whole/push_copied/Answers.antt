@@ -1,5 +1,5 @@
 use Rattle.std.proofs.Common.{◌++◌, ap, ◌∙◌}
-use Rattle.ps_whole.proofs.Widened.{copied_all}
+use Rattle.ps_whole.proofs.Numbers.{copied_all}
 use Rattle.ps_whole.proofs.rows.Whole.push_copied.Goals as goal
 
 pub returns : goal.returns

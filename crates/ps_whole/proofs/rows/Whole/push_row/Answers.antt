@@ -6,6 +6,6 @@ pub returns : goal.returns
 returns c =
     let all : IsTrue c.in_ok-push_changed.field-0 = search rules in
     record {
-      all = λ _. pivoted_next c.args.self.now c.args.p c.args.q c.args.i c.change-change.result c.args.numbers.now.items c.push_changed.new.made.items c.args.unders.now.items c.push.new.self.items c.size_quotient-under.result
+      all = λ _. pivoted_next c.args.self.now c.args.p c.args.column.now c.args.i c.change-change.result c.args.numbers.now.items c.push_changed.new.made.items c.args.unders.now.items c.push.new.self.items c.size_quotient-under.result
           c.requires.before c.change-change.ensures.change (c.in_ok-push_changed.ensures.all all) c.in_ok-push.ensures.items c.size_quotient-under.ensures.value (omega (arith, c.if-not-under.false));
     }
