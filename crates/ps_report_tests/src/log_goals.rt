@@ -150,3 +150,55 @@ fn are_read(alloc: Global) -> bool {
 fn goals_are_read(rt: HostRuntime) {
     assert!(rt; are_read(rt.alloc()));
 }
+
+// A goal line of 20,000 variables that rise, and an end.
+fn rising_line(alloc: Global, end: &[u8]) -> Option<Vec<u8>> {
+    let mut line = Vec::new(alloc);
+    line.extend_from_slice(b"g 21").ok()?;
+    for number in 1..20_001u32 {
+        line.extend_from_slice(b" 1 ").ok()?;
+        let mut digits = itoa::Buffer::new();
+        line.extend_from_slice(digits.format(number).as_bytes())
+            .ok()?;
+    }
+    line.extend_from_slice(end).ok()?;
+    Some(line)
+}
+
+// What stands behind 20,000 terms whose variables rise, and why the line is refused.
+const LONG_ENDS: [(&[u8], GoalError); 12] = [
+    (b" 0\n", GoalError::TooLarge),
+    (b" 3 -20001 0\n", GoalError::TooLarge),
+    (
+        b" 123456789012345678901234567890 123456789012345678901234567890 0\n",
+        GoalError::TooLarge,
+    ),
+    (b"\n", GoalError::NotCanonical),
+    (b" 0 0\n", GoalError::NotCanonical),
+    (b" 3 20001\n", GoalError::NotCanonical),
+    (b" 3 20000 0\n", GoalError::NotCanonical),
+    (b" 3 -7 0\n", GoalError::NotCanonical),
+    (b" 0 20001 0\n", GoalError::NotCanonical),
+    (b" -3 20001 0\n", GoalError::NotCanonical),
+    (b" 3 020001 0\n", GoalError::NotCanonical),
+    (b" 3 20001 0x\n", GoalError::BadByte),
+];
+
+fn are_long_refused(alloc: Global) -> bool {
+    for (end, why) in &LONG_ENDS {
+        match rising_line(alloc, end) {
+            Some(line) => {
+                if read_goal(alloc, line.as_slice()).err() != Some(*why) {
+                    return false;
+                }
+            }
+            None => return false,
+        }
+    }
+    true
+}
+
+#[test]
+fn longer_lines_than_are_written_are_refused(rt: HostRuntime) {
+    assert!(rt; are_long_refused(rt.alloc()));
+}
