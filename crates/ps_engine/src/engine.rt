@@ -2,10 +2,10 @@
 
 use crate::about::About;
 use crate::basis_system::BasisSystem;
+use crate::descent::Descent;
 use crate::limits::{BASIC_STARTS, MOST_MENDED, MOST_PIVOTS, MOST_REPAIRS, MOST_TOLD, SEED};
 use crate::pace::Pace;
 use crate::tolerances::Tolerances;
-use crate::walk::Walk;
 use ps_climb::{Draw, drawn_world};
 use ps_float_pricing::{Aim, FloatGoal, FloatPricer, Member, Priced, Relaxed, WorldPool};
 use ps_formula::World;
@@ -58,10 +58,10 @@ pub struct Engine {
     pub(crate) roundings: u32,
     /// How many worlds of the present face were sought.
     pub(crate) on_face: u32,
-    /// How many walks to smaller numbers began at the present basis.
-    pub(crate) walks: u32,
-    /// The walk that goes on.
-    pub(crate) walk: Option<Walk>,
+    /// How many ways to smaller numbers began at the present basis.
+    pub(crate) descents: u32,
+    /// The way that goes on.
+    pub(crate) descent: Option<Descent>,
     pub(crate) gain: FloatGoal,
     /// How far the objective is from its end, as far as is known.
     pub(crate) gap: f64,
@@ -129,8 +129,8 @@ impl Engine {
             told: 0,
             roundings: 0,
             on_face: 0,
-            walks: 0,
-            walk: None,
+            descents: 0,
+            descent: None,
             gain: FloatGoal::new(alloc, relaxed.nodes())?,
             gap: 1.0,
             pace: Pace::steady(),
@@ -172,7 +172,7 @@ impl Engine {
         self.mended = 0;
         self.told = 0;
         self.roundings = 0;
-        self.end_walks();
+        self.end_descents();
         self.gap = 1.0;
         self.pace.end();
         Ok(std::mem::replace(&mut self.pool, WorldPool::new(self.alloc)).into_members())
@@ -308,17 +308,17 @@ impl Engine {
             Priced::Spent => Ok(None),
             Priced::Found(members) => {
                 self.gap = self.greatest_gain(&members);
-                self.end_walks();
+                self.end_descents();
                 Ok(Some(self.take_all(members)?))
             }
         }
     }
 
     // What was tried at the present basis counts no more.
-    pub(crate) fn end_walks(&mut self) {
+    pub(crate) fn end_descents(&mut self) {
         self.on_face = 0;
-        self.walks = 0;
-        self.walk = None;
+        self.descents = 0;
+        self.descent = None;
     }
 
     // The greatest gain of these worlds.
@@ -371,14 +371,14 @@ impl Engine {
     // Counts that worlds were told, and answers whether the guess may go on.
     pub(crate) fn may_go_on(&mut self) -> bool {
         self.told = self.told.saturating_add(1);
-        self.end_walks();
+        self.end_descents();
         self.told <= MOST_TOLD
     }
 
     // Counts that the present guess is mended, and answers whether it may be.
     pub(crate) fn may_mend(&mut self) -> bool {
         self.mended = self.mended.saturating_add(1);
-        self.end_walks();
+        self.end_descents();
         self.mended <= MOST_MENDED
     }
 }

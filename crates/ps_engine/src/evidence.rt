@@ -60,7 +60,7 @@ impl Engine {
         self.forced = None;
         self.mended = 0;
         self.told = 0;
-        self.end_walks();
+        self.end_descents();
         if !self.set_given(aim.evidence())? {
             return Ok(false);
         }

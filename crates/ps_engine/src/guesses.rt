@@ -45,18 +45,18 @@ impl Engine {
         }
     }
 
-    // The distribution of the basis, or before any walk one that keeps a margin.
+    // The distribution of the basis, or before any way to smaller numbers one that keeps a margin.
     fn model_here(&mut self, problem: &Problem) -> Result<Within, NoMemory> {
         match self.basic_model()? {
             Within::Model(whole) => Ok(Within::Model(whole)),
-            _ if self.walks > 0 => Ok(Within::Nothing),
+            _ if self.descents > 0 => Ok(Within::Nothing),
             _ => self.inner_model(problem),
         }
     }
 
-    // The same, and where there is none a part of a walk to other vertices.
+    // The same, and where there is none a part of a way to other vertices.
     fn model_part(&mut self, problem: &Problem) -> Result<Within, NoMemory> {
-        if self.walk.is_none() {
+        if self.descent.is_none() {
             match self.model_here(problem)? {
                 Within::Against(_) | Within::Nothing => {}
                 found => return Ok(found),
@@ -73,7 +73,7 @@ impl Engine {
     // other vertices.
     fn small_model(&mut self, problem: &Problem) -> Result<Option<Model>, NoMemory> {
         if self.pace.first() == 0 {
-            self.end_walks();
+            self.end_descents();
         }
         for part in self.pace.first()..MOST_PARTS {
             if self.pace.is_part_due(part) {

@@ -4,11 +4,13 @@
 
 mod about;
 mod basis_system;
+mod descent;
 mod elimination;
 mod engine;
 mod evidence;
 mod face;
 mod first_phase;
+mod gathering;
 mod guesses;
 mod limits;
 mod on_face;
@@ -17,6 +19,7 @@ mod rounding;
 mod shrinking;
 mod side;
 mod tolerances;
+mod vertex;
 mod walk;
 mod whole;
 

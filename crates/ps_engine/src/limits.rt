@@ -30,16 +30,34 @@ pub(crate) const BASIC_STARTS: u32 = 4;
 /// The seed of what is drawn.
 pub(crate) const SEED: u64 = 99;
 
-/// How many walks to smaller numbers begin at a basis at most.
-pub(crate) const MOST_WALKS: u32 = 3;
+/// How many ways to smaller numbers begin at a basis at most: walks, and one gathering.
+pub(crate) const MOST_DESCENTS: u32 = 4;
 
-/// How many parts the walks of a verdict's distribution have at most.
+/// So many walks are made before worlds gather.
+pub(crate) const GATHERING: u32 = 1;
+
+/// Around so many worlds of a vertex its others gather.
+pub(crate) const CENTRES: usize = 40;
+
+/// How many rounds a gathering has at most.
+pub(crate) const GATHERING_ROUNDS: u32 = 80;
+
+/// How many steps a local search makes there at most.
+pub(crate) const GATHERING_STEPS: u32 = 100;
+
+/// A world joins where it lowers the cost by more than this.
+pub(crate) const GATHERED_GAIN: f64 = 1e-6;
+
+/// Values are set in order by their multiples of one over this.
+pub(crate) const FINE_VALUE: f64 = 1e15;
+
+/// How many parts the ways to smaller numbers of a verdict's distribution have at most.
 pub(crate) const MOST_PARTS: u32 = 3_000;
 
 /// How many worlds a part of a walk looks at.
 pub(crate) const WALK_STEPS: u32 = 2_000;
 
-/// Where guesses pause, a part of a walk counts as so many rounds.
+/// Where guesses pause, a part of a walk or a gathering counts as so many rounds.
 pub(crate) const ROUNDS_OF_A_PART: u32 = 4;
 
 /// So many worlds of a face are sought before it begins anew with them, which is a part as well.

@@ -48,7 +48,7 @@ impl Engine {
         aim: Aim,
         system: &BasisSystem,
     ) -> Result<Turn, NoMemory> {
-        if self.walks > 0 {
+        if self.descents > 0 {
             return Ok(Turn::TooLarge);
         }
         if self.is_trivial(aim) {

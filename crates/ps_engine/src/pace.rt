@@ -49,12 +49,12 @@ impl Pace {
         round.saturating_sub(self.rounds) >= self.every
     }
 
-    /// How many parts of a walk a call makes: a part counts as four rounds.
+    /// How many parts of a way to smaller numbers a call makes: a part counts as four rounds.
     pub(crate) fn parts(&self) -> u32 {
         (self.every / ROUNDS_OF_A_PART).max(1)
     }
 
-    /// Whether the guess pauses before this part of a walk.
+    /// Whether the guess pauses before this part.
     pub(crate) fn is_part_due(&self, part: u32) -> bool {
         part.saturating_sub(self.rounds) >= self.parts()
     }

@@ -62,7 +62,7 @@ impl Engine {
         aim: Aim,
         is_evidence: bool,
     ) -> Result<Turn, NoMemory> {
-        if self.walks > 0 || self.on_face > 0 {
+        if self.descents > 0 || self.on_face > 0 {
             return self.whole_turn(problem, aim);
         }
         if !self.optimise() && !self.may_mend() {
@@ -118,9 +118,9 @@ impl Engine {
         Ok(Turn::Pause)
     }
 
-    // Where no walk goes on whole numbers from the basis, and where they are too large, a part of a walk.
+    // Where no way goes on, whole numbers from the basis, and where they are too large, a part of a way.
     fn whole_part(&mut self, problem: &Problem, aim: Aim) -> Result<Turn, NoMemory> {
-        if self.walk.is_none() {
+        if self.descent.is_none() {
             match self.whole_guess(problem, aim)? {
                 Turn::TooLarge => {}
                 turn => return Ok(turn),

@@ -1,17 +1,16 @@
 //! A walk over the vertices of a face.
 
 use crate::about::About;
-use crate::basis_system::BasisSystem;
-use crate::engine::kinds_of;
 use crate::limits::{
     COLD, HOTTEST, LEAST_BLOCKING, MOST_STEPS, SHORTER, SMALLER, SMALLEST_PIVOT, WALK_STEPS,
 };
+use crate::vertex::Vertex;
 use ps_climb::Draw;
-use ps_float_pricing::{FloatGoal, Member, Relaxed, WorldPool};
+use ps_float_pricing::{FloatGoal, Member, Relaxed};
 use ps_formula::World;
 use ps_io::NoMemory;
 use ps_problem::Problem;
-use ps_simplex_float::{Column, MOST_ROWS, Phase, Simplex};
+use ps_simplex_float::{Column, Simplex};
 use std::alloc::{AllocError, Global};
 use std::num::nearest_u64_to_f64;
 
@@ -22,10 +21,7 @@ use std::num::nearest_u64_to_f64;
 #[derive(Drop)]
 pub(crate) struct Walk {
     alloc: Global,
-    simplex: Simplex,
-    pool: WorldPool,
-    /// The evidence of row 0.
-    given: Option<u32>,
+    vertex: Vertex,
     /// 0 in the worlds of the face, and below 0 in all others.
     gain: FloatGoal,
     level: f64,
@@ -81,14 +77,6 @@ fn with_atom_turned(alloc: Global, world: &World, atom: usize) -> Result<World, 
     Ok(other)
 }
 
-// An equal world with the truth of its nodes.
-fn copy_of(alloc: Global, member: &Member) -> Result<Member, NoMemory> {
-    Ok(Member {
-        world: member.world.copy(alloc)?,
-        truth: member.truth.to_vec(alloc)?,
-    })
-}
-
 impl Walk {
     /// A walk from the basis of a program, within the face where no world gains.
     pub(crate) fn new(
@@ -99,66 +87,30 @@ impl Walk {
         level: f64,
         seed: u64,
     ) -> Result<Option<Walk>, NoMemory> {
-        let kinds = kinds_of(alloc, about.relaxed)?;
-        if kinds.is_empty() || kinds.len() > MOST_ROWS {
+        let Some(vertex) = Vertex::new(alloc, about, simplex)? else {
             return Ok(None);
-        }
-        let mut walk = Walk {
+        };
+        Ok(Some(Walk {
             alloc,
-            simplex: Simplex::new(alloc, &kinds, &[1.0])?,
-            pool: WorldPool::new(alloc),
-            given: about.given,
+            direction: vec![in alloc; 0.0; vertex.simplex.basis().len()]?,
+            vertex,
             gain,
             level,
             draw: Draw::new(seed),
             steps: 0,
-            direction: vec![in alloc; 0.0; kinds.len()]?,
             size: 1.0,
             next: SMALLER,
-        };
-        walk.simplex.set_phase(Phase::Two);
-        let mut columns = Vec::new(alloc);
-        for column in simplex.basis() {
-            columns.push(walk.own_column(*column, simplex, about.pool)?)?;
-        }
-        let is_started = walk.simplex.start_at(&columns);
-        Ok(if is_started { Some(walk) } else { None })
+        }))
     }
 
-    // The column for one of another program, whose worlds are in a pool.
-    fn own_column(
-        &mut self,
-        column: Column,
-        simplex: &Simplex,
-        pool: &WorldPool,
-    ) -> Result<Column, NoMemory> {
-        let Column::Added(place) = column else {
-            return Ok(column);
-        };
-        let number = self.pool.members().len();
-        if let Some(member) = pool.members().get(place) {
-            self.pool.add(copy_of(self.alloc, member)?)?;
-            self.simplex.add_column(simplex.entries(place), 0.0)?;
-        }
-        Ok(Column::Added(number))
-    }
-
-    /// The basis.
-    pub(crate) fn basis(&self) -> &[Column] {
-        self.simplex.basis()
+    /// The vertex that it is at.
+    pub(crate) fn vertex(&self) -> &Vertex {
+        &self.vertex
     }
 
     /// Whether all its steps are made.
     pub(crate) fn is_over(&self) -> bool {
         self.steps >= MOST_STEPS
-    }
-
-    /// An equal world to that of an added column.
-    pub(crate) fn member(&self, number: usize) -> Result<Option<Member>, NoMemory> {
-        match self.pool.members().get(number) {
-            Some(member) => Ok(Some(copy_of(self.alloc, member)?)),
-            None => Ok(None),
-        }
     }
 
     /// Goes on by some steps, at most until whole numbers are tried, and answers whether the values are
@@ -168,19 +120,10 @@ impl Walk {
             self.step(problem, relaxed)?;
             if self.size <= self.next {
                 self.next = self.size * SMALLER;
-                return self.is_small(relaxed);
+                return self.vertex.is_small(relaxed);
             }
         }
         Ok(false)
-    }
-
-    // Whether the values fit into small whole numbers.
-    fn is_small(&self, relaxed: &Relaxed) -> Result<bool, NoMemory> {
-        let basis = self.simplex.basis();
-        match BasisSystem::new(self.alloc, relaxed, &self.pool, self.given, basis)? {
-            Some(system) => Ok(system.values()?.is_some()),
-            None => Ok(false),
-        }
     }
 
     // By so much an entry may be above 1.
@@ -193,12 +136,12 @@ impl Walk {
     // Looks at one world beside a basic one, and where that is on the face and its pivot serves, makes it.
     fn step(&mut self, problem: &Problem, relaxed: &Relaxed) -> Result<(), NoMemory> {
         self.steps = self.steps.saturating_add(1);
-        let rows = self.simplex.basis().len() as u64;
+        let rows = self.vertex.simplex.basis().len() as u64;
         if rows == 0 || problem.atoms() == 0 {
             return Ok(());
         }
         let row = self.draw.below(rows) as usize;
-        let Some(Column::Added(number)) = self.simplex.basis().get(row).copied() else {
+        let Some(Column::Added(number)) = self.vertex.simplex.basis().get(row).copied() else {
             return Ok(());
         };
         let Some(member) = self.beside(problem, number)? else {
@@ -208,11 +151,13 @@ impl Walk {
             return Ok(());
         }
         self.write_direction(relaxed, row, number, &member)?;
-        if !spares_artificials(self.simplex.basis(), &self.direction) {
+        if !spares_artificials(self.vertex.simplex.basis(), &self.direction) {
             return Ok(());
         }
-        let Some((leaving, entry)) = smallest_blocking(self.simplex.values(), &self.direction)
-        else {
+        let Some((leaving, entry)) = smallest_blocking(
+            self.vertex.simplex.values(),
+            &self.direction,
+        ) else {
             return Ok(());
         };
         if entry > 0.99 + self.heat() {
@@ -223,7 +168,7 @@ impl Walk {
 
     // A world that differs from that of a column in one atom or two.
     fn beside(&mut self, problem: &Problem, number: usize) -> Result<Option<Member>, NoMemory> {
-        let Some(member) = self.pool.members().get(number) else {
+        let Some(member) = self.vertex.pool.members().get(number) else {
             return Ok(None);
         };
         let atoms = problem.atoms() as u64;
@@ -248,10 +193,10 @@ impl Walk {
         number: usize,
         member: &Member,
     ) -> Result<(), AllocError> {
-        let own = self.pool.truth(number);
-        let changes = relaxed.changes(self.alloc, self.given, own, &member.truth)?;
+        let own = self.vertex.pool.truth(number);
+        let changes = relaxed.changes(self.alloc, self.vertex.given, own, &member.truth)?;
         for (place, entry) in self.direction.iter_mut().enumerate() {
-            let inverse_row = self.simplex.inverse_row(place);
+            let inverse_row = self.vertex.simplex.inverse_row(place);
             let mut sum = if place == row { 1.0 } else { 0.0 };
             for (changed, change) in &changes {
                 sum += change * inverse_row.get(*changed).copied().unwrap_or(0.0);
@@ -269,16 +214,11 @@ impl Walk {
         entry: f64,
         member: Member,
     ) -> Result<(), NoMemory> {
-        let number = match self.pool.place(&member.world) {
+        let number = match self.vertex.pool.place(&member.world) {
             Some(number) => number,
-            None => {
-                let column = relaxed.column(self.alloc, self.given, &member.truth)?;
-                self.simplex.add_column(&column, 0.0)?;
-                self.pool.add(member)?;
-                self.pool.members().len().wrapping_sub(1)
-            }
+            None => self.vertex.add(relaxed, member, 0.0)?,
         };
-        if self.simplex.exchange(leaving, Column::Added(number)) {
+        if self.vertex.simplex.exchange(leaving, Column::Added(number)) {
             self.size *= entry;
         }
         Ok(())
