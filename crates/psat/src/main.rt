@@ -1,37 +1,9 @@
-//! A solver and checker for probabilistic logic: it answers a problem with a report, judges a
-//! report on a problem, explains why a problem's sentences can't be met, and makes problems.
+//! A solver and checker for probabilistic logic, on the standard streams: it answers a problem with a
+//! report, judges a report on a problem, explains why a problem's sentences can't be met, and makes
+//! problems.
 #![tactic(auto)]
 
-mod answered;
-mod checked;
-mod command;
-mod exit;
-#[cfg(test)]
-mod explain_tests;
-mod explained;
-#[cfg(test)]
-mod fault_tests;
-mod laws;
-mod made;
-#[cfg(test)]
-mod make_tests;
-mod message;
-mod reply;
-mod reply_error;
-mod run;
-mod shown;
-#[cfg(test)]
-mod solve_tests;
-mod solved;
-mod status;
-mod summary;
-#[cfg(test)]
-mod tests;
-mod writing;
-
-use crate::exit::{exit_code, failure, run_program};
-use crate::message::Message;
-use crate::status::Status;
+use ps_commands::{Message, NoWords, Status, exit_code, failure, run_program};
 use ps_io::{Outlet, StdSink, StdSource};
 use std::env;
 use std::io::IsTerminal;
@@ -48,19 +20,24 @@ fn tell_usage(rt: &HostRuntime) {
     }
 }
 
+// Tells how a run ended, where its status alone doesn't.
+fn tell(rt: &HostRuntime, ended: Result<Status, NoWords>) {
+    if let Ok(Status::Usage) = ended {
+        tell_usage(rt);
+    }
+    if let Some(failure) = failure(ended) {
+        let _ = eprintln!(rt; "psat: {failure}");
+    }
+}
+
 fn main(rt: HostRuntime) -> ExitCode {
     let mut input = StdSource::new(rt.stdin());
     let mut outlet = Outlet::new(rt.stdout());
     let mut output = StdSink::new(&mut outlet);
     let ended = run_program(rt.alloc(), env::args(&rt), &mut input, &mut output);
-    if let Ok(Status::Usage) = ended {
-        tell_usage(&rt);
-    }
     // A reader that has gone, as `head` does, wants nothing more, also no message.
     if !outlet.has_reader_gone() {
-        if let Some(failure) = failure(ended) {
-            let _ = eprintln!(rt; "psat: {failure}");
-        }
+        tell(&rt, ended);
     }
     exit_code(ended)
 }

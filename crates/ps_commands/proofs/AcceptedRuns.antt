@@ -1,0 +1,75 @@
+-- What a run of `solve` wrote is the one text that a run of `check` then accepts.
+use Rattle.std.proofs.Common.{◌≡◌, ◌≢◌, ◌<◌, ◌≤◌, ◌⊎◌, ℕ, Bool, List, ◌++◌, length, Option, Some, sym, ap, subst, ◌∙◌, inl, inr}
+use Rattle.std.specs.Io.KnownBytes.{append_known}
+use Rattle.std.proofs.lemmas.List.{append_cancel_left}
+use Rattle.std.proofs.lemmas.Option.{same_Some}
+use Rattle.ps_problem.specs.Problems.{Parts}
+use Rattle.ps_read.specs.Readings.{SpellsWhole}
+use Rattle.ps_answer.specs.declared.answer.Answer.{Answer}
+use Rattle.ps_answer.specs.declared.limits.TheConstants.{MOST_PIVOTS}
+use Rattle.ps_claims.specs.Claims.{claims_of, unfinished_of}
+use Rattle.ps_valid.specs.Answers.{answer_of}
+use Rattle.ps_runs.specs.declared.limits.Limits.{Limits}
+use Rattle.ps_commands.specs.declared.command.Command.TheVariants.{Check, Solve}
+use Rattle.ps_commands.specs.declared.command.TheConstants.{MOST_PROBLEM}
+use Rattle.ps_commands.specs.declared.status.Status.{Status}
+use Rattle.ps_commands.specs.declared.status.Status.TheVariants.{Unfinished}
+use Rattle.ps_commands.specs.Due.{Output, DueFor, IsSolvedBy, accepted}
+use Rattle.ps_commands.specs.RunLimits.{limits_for}
+use Rattle.ps_commands.specs.Accepting.{IsReadable}
+use Rattle.ps_commands.specs.Answering.{HasWritten, IsSolved}
+use Rattle.ps_commands.specs.AcceptedRuns.{HasRun, AcceptsReport, behind_problem}
+use Rattle.ps_commands.proofs.Accepted.{accepted_report}
+use Rattle.ps_commands.proofs.Answering.{problem_solved, written_so}
+use Rattle.ps_commands.proofs.OneOutput.{one_for_command}
+
+-- what was appended to known bytes
+appended : (known : Option (List ℕ)) (new : Option (List ℕ)) (before text more : List ℕ) → known ≡ Some before → new ≡ Some (before ++ text) → new ≡ append_known known more → text ≡ more
+appended known new before text more k e a =
+    append_cancel_left before text more (same_Some (before ++ text) (before ++ more) (sym e ∙ a ∙ ap (λ (x : Option (List ℕ)). append_known x more) k))
+
+-- the accepted line of an answer's report
+abbrev accepted_of : Parts → Answer → Output
+accepted_of p a = accepted (length (claims_of p (answer_of a))) (unfinished_of (answer_of a))
+
+module _ (limits : Limits) (enough : Bool) (most : ℕ) (bytes report line : List ℕ) (p : Parts) (solved checked : Status) (spells : SpellsWhole bytes p)
+    (few : length bytes ≤ MOST_PROBLEM) (fits : length (behind_problem bytes report) ≤ most) (closed : ((limits_for limits enough p).pivots < MOST_PIVOTS) ⊎ (solved ≢ Unfinished))
+    (first : HasRun (Solve limits enough) bytes report solved) (second : HasRun (Check most) (behind_problem bytes report) line checked) where
+  readable : (o : Output) → solved ≡ o.status → IsReadable (limits_for limits enough p) o
+  readable o e = elim closed [
+    | inl below ↦ inl below
+    | inr not ↦ inr (λ u. not (e ∙ u))
+  ]
+
+  due_line : (o : Output) (a : Answer) → report ≡ o.text → solved ≡ o.status → IsSolvedBy (limits_for limits enough p) bytes o p a → DueFor (Check most) (behind_problem bytes report) (accepted_of p a)
+  due_line o a text e h =
+      subst (λ (x : List ℕ). DueFor (Check most) (behind_problem bytes x) (accepted_of p a)) (sym text)
+      (accepted_report (limits_for limits enough p) bytes o p a most (readable o e) h few (subst (λ (x : List ℕ). length (behind_problem bytes x) ≤ most) text fits))
+
+  checked_line : (o : Output) (a : Answer) → report ≡ o.text → IsSolvedBy (limits_for limits enough p) bytes o p a
+      → HasWritten (λ x. x ≡ accepted_of p a) checked second.old second.new → AcceptsReport p report line checked
+  checked_line o a text h w = record {
+    answer = a;
+    report_is = text ∙ ap (λ (x : Output). x.text) h.is;
+    line_is =
+        appended second.old.sink.bytes second.new.sink.bytes second.before line w.output.text second.sink_is second.written w.written
+        ∙ ap (λ (x : Output). x.text) w.due;
+    status_is = w.status_is ∙ ap (λ (x : Output). x.status) w.due;
+  }
+
+  solved_line : HasWritten (IsSolved limits enough bytes p) solved first.old first.new → AcceptsReport p report line checked
+  solved_line w =
+      let o = w.output in
+      let a = w.due.0 in
+      let text : report ≡ o.text = appended first.old.sink.bytes first.new.sink.bytes first.before report o.text first.sink_is first.written w.written in
+      elim (written_so second.words (Check most) second.old second.new checked (behind_problem bytes report) (λ x. x ≡ accepted_of p a) second.spelled second.faultless second.input_is
+      (λ x due. one_for_command (Check most) (behind_problem bytes report) x (accepted_of p a) tt due (due_line o a text w.status_is w.due.1))) [
+        | inl v ↦ checked_line o a text w.due.1 v
+        | inr none ↦ absurd (second.remembered none.status_is)
+      ]
+
+  pub run_accepted : AcceptsReport p report line checked
+  run_accepted = elim (problem_solved first.words limits enough first.old first.new solved bytes p first.spelled first.faultless first.input_is few spells) [
+    | inl w ↦ solved_line w
+    | inr none ↦ absurd (first.remembered none.status_is)
+  ]

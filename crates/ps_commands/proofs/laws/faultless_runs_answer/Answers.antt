@@ -1,0 +1,17 @@
+use Rattle.ps_commands.proofs.Answering.{faultless_answer, problem_explained, problem_made, problem_solved, report_judged}
+use Rattle.ps_commands.proofs.laws.faultless_runs_answer.Goals as goal
+
+pub returns-clause-answered : goal.returns-clause-answered
+returns-clause-answered c = faultless_answer
+
+pub returns-clause-solved : goal.returns-clause-solved
+returns-clause-solved c = problem_solved
+
+pub returns-clause-judged : goal.returns-clause-judged
+returns-clause-judged c = report_judged
+
+pub returns-clause-explained : goal.returns-clause-explained
+returns-clause-explained c = problem_explained
+
+pub returns-clause-made : goal.returns-clause-made
+returns-clause-made c = problem_made

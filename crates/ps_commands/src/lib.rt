@@ -1,0 +1,27 @@
+//! The commands of a solver and checker for probabilistic logic: it answers a problem with a report,
+//! judges a report on a problem, explains why a problem's sentences can't be met, and makes problems.
+#![tactic(auto)]
+
+mod answered;
+mod checked;
+mod command;
+mod exit;
+mod explained;
+mod laws;
+mod made;
+mod message;
+mod reply;
+mod reply_error;
+mod running;
+mod shown;
+mod solved;
+mod status;
+mod summary;
+mod writing;
+
+pub use command::{Command, MOST_PROBLEM, parse_words};
+pub use exit::{NoWords, exit_code, failure, run_program};
+pub use message::Message;
+pub use ps_query::Limits;
+pub use running::run;
+pub use status::Status;
