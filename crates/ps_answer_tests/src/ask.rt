@@ -2,7 +2,9 @@
 ghost use Rattle.ps_ask.specs.Shown.{AreSettings};
 
 use late_rows::{LATE, RESTS};
-use ps_ask::{ClaimKind, Company, Progress, Settings, Sinks, Sought, Status, Style, Watch, ask};
+use ps_ask::{
+    ClaimKind, Company, Progress, Settings, Sinks, Sought, Status, Style, Watch, Work, ask,
+};
 use ps_guess::Limits;
 use ps_io::{MemSink, MemSource, NoMemory};
 use rows::{OPEN, PROBLEM, ROWS, Row, UNWARNED, WORDS};
@@ -44,6 +46,10 @@ impl Watch for Asked {
         }
         self.left -= 1;
         false
+    }
+
+    fn has_room(&mut self, work: Work, _: u32) -> bool {
+        work == Work::Run || !self.is_over()
     }
 
     fn tell(&mut self, _: ClaimKind, _: Progress) {}

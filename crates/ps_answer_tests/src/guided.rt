@@ -7,8 +7,8 @@ use ps_answer::{Answer, Dual, Model, QueryAnswer, QueryPart, SideAnswer, Verdict
 use ps_claims::ClaimKind;
 use ps_formula::World;
 use ps_guess::{
-    Guess, Guesser, InTime, Known, Limits, Progress, Trials, Watch, answer, part_in_time,
-    verdict_in_time,
+    Guess, Guesser, InTime, Known, Limits, MOST_TURNS, Pending, Progress, Trials, Watch, Work,
+    answer, run_turn, verdict_in_time,
 };
 use ps_io::{List, NoMemory};
 use ps_problem::{Problem, Query};
@@ -186,6 +186,10 @@ impl Watch for Endless {
         false
     }
 
+    fn has_room(&mut self, _: Work, _: u32) -> bool {
+        true
+    }
+
     fn tell(&mut self, _: ClaimKind, _: Progress) {}
 }
 
@@ -209,13 +213,17 @@ fn is_verdict_open(
 }
 
 // Whether the answer to each query is.
-fn are_parts_open(
-    alloc: Global,
-    trials: &Trials<'_>,
-    timed: &mut InTime<'_, Fixed, Endless>,
-) -> Result<bool, NoMemory> {
+fn are_parts_open(alloc: Global, trials: &Trials<'_>) -> Result<bool, NoMemory> {
     for query in trials.problem().queries().as_slice() {
-        if !is_open(&part_in_time(alloc, trials, *query, NO_PIVOTS, timed)?) {
+        let pending = run_turn(
+            alloc,
+            trials,
+            *query,
+            NO_PIVOTS,
+            MOST_TURNS - 1,
+            Pending::new(),
+        )?;
+        if !is_open(&pending.known) {
             return Ok(false);
         }
     }
@@ -232,11 +240,8 @@ fn is_told_as_open(alloc: Global, trials: &Trials<'_>) -> Result<bool, NoMemory>
         told: false,
     };
     let mut watch = Endless;
-    let mut timed = InTime {
-        guesser: &mut guesser,
-        watch: &mut watch,
-    };
-    Ok(is_verdict_open(alloc, trials, &mut timed)? && are_parts_open(alloc, trials, &mut timed)?)
+    let mut timed = InTime::new(&mut guesser, &mut watch);
+    Ok(is_verdict_open(alloc, trials, &mut timed)? && are_parts_open(alloc, trials)?)
 }
 
 fn ends_open(alloc: Global) -> Option<bool> {

@@ -10,3 +10,4 @@ pub mod DueLaws
 pub mod ReadLaws
 pub mod RunLaws
 pub mod Decimals
+pub mod RoundLaws

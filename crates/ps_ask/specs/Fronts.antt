@@ -21,7 +21,7 @@ use Rattle.ps_spoken.specs.Quiet.{values_of, verdict_value, query_values, parts_
 use Rattle.ps_ask.specs.declared.settings.Settings.{Settings}
 use Rattle.ps_ask.specs.declared.settings.Style.{Style}
 use Rattle.ps_ask.specs.declared.settings.Style.TheVariants.{Words, Values, Json, Report}
-use Rattle.ps_ask.specs.Late.{is_late, is_late_answer}
+use Rattle.ps_ask.specs.Late.{is_late, is_late_answer, IsOpenByTime}
 
 -- ---- what is judged
 -- time is limited, and the verdict is shown as not finished within it
@@ -34,10 +34,12 @@ pub record IsShownVerdict (s : Settings) (p : Parts) (v : Verdict) (events : Lis
   pub right : IsRightVerdict (length p.names) (bounds_of p) (verdict_of v)
   pub judged : IsAnsweredVerdict s.limits p v events ⊎ IsLateVerdict s v
 
--- time is limited, and the part is shown as not finished within it; what it claims is valid all the same, and can be printed
+-- time is limited, and the part is shown as not finished within it, and nothing in it as open for another cause; what it claims
+-- is valid all the same, and can be printed
 pub record IsLatePart (s : Settings) (p : Parts) (q : Query) (part : QueryPart) : Type 0 where
   pub timed : s.is_timed ≡ true
   pub late : is_late_answer part.answer ≡ true
+  pub only : IsOpenByTime part.answer
   pub valid : IsValidPart p q (part_of part.answer)
   pub printed : IsPrintedPart part.answer
 

@@ -1,5 +1,5 @@
 -- What wasn't finished within a limit of time.
-use Rattle.std.specs.Prelude.{◌≡◌, ◌==◌, ◌||◌, ◌&&◌, Bool, false, List, [], ◌∷◌}
+use Rattle.std.specs.Prelude.{◌≡◌, ◌==◌, ◌||◌, ◌&&◌, Bool, true, false, List, [], ◌∷◌}
 use Rattle.ps_answer.specs.declared.answer.Cause.{Cause}
 use Rattle.ps_answer.specs.declared.answer.Cause.TheVariants.{Pivots, Conflicts, Wide}
 use Rattle.ps_answer.specs.declared.answer.SideAnswer.{SideAnswer}
@@ -28,6 +28,17 @@ abbrev pub is_late_answer : QueryAnswer → Bool
 is_late_answer (query.Bounds lower lower_trace upper upper_trace) = is_late_side lower || is_late_side upper
 is_late_answer (query.Impossible d) = false
 is_late_answer (query.Open c) = is_late_cause c
+
+-- the side is a bound, or it is open since time was over
+abbrev pub IsClosedOrLate : SideAnswer → Type 0
+IsClosedOrLate (side.Bound value m d) = Unit {0}
+IsClosedOrLate (side.Open c) = is_late_cause c ≡ true
+
+-- whatever is open in the answer is open since time was over
+abbrev pub IsOpenByTime : QueryAnswer → Type 0
+IsOpenByTime (query.Bounds lower lower_trace upper upper_trace) = IsClosedOrLate lower × IsClosedOrLate upper
+IsOpenByTime (query.Impossible d) = Unit {0}
+IsOpenByTime (query.Open c) = is_late_cause c ≡ true
 
 -- so is some query of these
 abbrev pub is_late_in : List QueryPart → Bool

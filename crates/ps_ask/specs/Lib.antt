@@ -8,5 +8,6 @@ pub mod Fronts
 pub mod Shown
 -- The law of decimals
 pub mod Decimals
--- Bridge: what a reply stands for
+-- Bridge: what a reply stands for, and what is known between turns
 pub mod Replies
+pub mod Rounds

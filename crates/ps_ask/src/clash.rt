@@ -13,7 +13,7 @@ use crate::sought::Sought;
 use ps_answer::{Answer, Verdict};
 use ps_engine::Engine;
 use ps_explain::verdict_without;
-use ps_guess::{Guesser, InTime, MOST_TURNS, Watch, are_greatest, limits_at};
+use ps_guess::{Guesser, InTime, MOST_TURNS, Watch, Work, are_greatest, limits_at};
 use ps_io::{List, NoMemory};
 use ps_problem::Problem;
 use ps_spoken::{Clash, Clashing, out_of_time};
@@ -60,7 +60,7 @@ fn rest_in_time<G: Guesser, W: Watch>(
     ensures { IfOk result (IsRestOf settings problem.now number) }
 {
     for turn in 0..MOST_TURNS {
-        if timed.watch.is_over() {
+        if timed.watch.is_over() || !timed.watch.has_room(Work::Run, turn) {
             return Ok(Verdict::Open(out_of_time()));
         }
         if let Some(rest) = rest_at(alloc, problem, settings, number, turn, timed)? {
@@ -146,10 +146,7 @@ fn clash_for<W: Company>(
     let mut engine = Engine::new(alloc, problem)?;
     engine.pause_every(ROUNDS);
     watch.turn_to(Sought::Clash);
-    let mut timed = InTime {
-        guesser: &mut engine,
-        watch,
-    };
+    let mut timed = InTime::new(&mut engine, watch);
     if !settings.is_timed {
         let core = core_at_once(alloc, problem, settings, &mut timed)?;
         return clash_of(alloc, problem, settings, core, &mut timed);

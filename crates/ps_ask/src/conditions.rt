@@ -1,17 +1,19 @@
 //! Conditions of sentences that no distribution gives weight.
-ghost use Rattle.std.specs.Prelude.{◌≡◌, true, IfOk};
+ghost use Rattle.std.specs.Prelude.{◌≡◌, true, All, IfOk};
 ghost use Rattle.ps_problem.specs.Problems.{HasNodes};
-ghost use Rattle.ps_ask.specs.Conditions.{IsIdle};
+ghost use Rattle.ps_ask.specs.Conditions.{IsIdle, IsIdlePlace};
+ghost use Rattle.ps_ask.specs.Shown.{AreSettings};
 
 use crate::company::Company;
 use crate::notes::Input;
+use crate::settings::Settings;
 use crate::sought::Sought;
 use ps_answer::{Answer, Model, QueryAnswer, SideAnswer, Verdict};
 use ps_engine::Engine;
 use ps_float_pricing::Member;
-use ps_guess::{InTime, Trials, find_nothing};
+use ps_guess::{InTime, Trials, nothing_in_time};
 use ps_hints::{sentence_lines, write_idle_condition};
-use ps_io::NoMemory;
+use ps_io::{List, NoMemory};
 use ps_problem::{Bound, Problem, Query, Sentence};
 use std::alloc::Global;
 
@@ -82,10 +84,12 @@ fn is_unweighed(bound: &Bound, weighed: &[bool]) -> bool {
 // condition weight.
 fn is_idle<W: Company>(
     alloc: Global,
+    settings: Settings,
     trials: &Trials<'_>,
     bound: &Bound,
     timed: &mut InTime<'_, Engine, W>,
 ) -> Result<bool, NoMemory>
+    requires settings { AreSettings settings }
     requires bound { HasNodes trials.now.nodes bound.now.formula bound.now.given bound.now.both }
     ensures { IfOk result (λ told. told ≡ true → IsIdle trials.now bound.now.given) }
 {
@@ -97,10 +101,57 @@ fn is_idle<W: Company>(
         given: bound.given,
         both: bound.both,
     };
-    if let Some(_dual) = find_nothing(alloc, trials, Some(query), timed)? {
+    if let Some(_dual) = nothing_in_time(alloc, trials, query, settings.limits, timed)? {
         return Ok(true);
     }
     Ok(false)
+}
+
+/// The places among the bounds of the problem, from 0, of those among these whose condition no
+/// distribution gives weight, as far as that is shown in time.
+fn idle_among<W: Company>(
+    alloc: Global,
+    settings: Settings,
+    trials: &Trials<'_>,
+    places: &[usize],
+    timed: &mut InTime<'_, Engine, W>,
+) -> Result<List<usize>, NoMemory>
+    requires settings { AreSettings settings }
+    ensures { IfOk result (All (IsIdlePlace trials.now)) }
+{
+    let bounds = trials.problem().bound_list();
+    let mut idle = List::new(alloc);
+    for place in places {
+        if let Some(bound) = bounds.get(*place) {
+            if is_idle(alloc, settings, trials, bound, timed)? {
+                idle.push(*place)?;
+            }
+        }
+    }
+    Ok(idle)
+}
+
+// The places among the bounds of the first bound of each sentence whose condition none of these
+// distributions gives weight.
+fn unweighed_places(
+    alloc: Global,
+    problem: &Problem,
+    model: &Model,
+    answer: &Answer,
+) -> Result<List<usize>, NoMemory> {
+    let weighed = weighed_in(alloc, problem, model, answer)?;
+    let bounds = problem.bound_list();
+    let mut places = List::new(alloc);
+    let mut place = 0usize;
+    for sentence in problem.sentences().as_slice() {
+        if let Some(bound) = bounds.get(place) {
+            if is_unweighed(bound, &weighed) {
+                places.push(place)?;
+            }
+        }
+        place = place.saturating_add(bound_count(sentence));
+    }
+    Ok(places)
 }
 
 // How many bounds a sentence states.
@@ -108,27 +159,20 @@ fn bound_count(sentence: &Sentence) -> usize {
     if sentence.second.is_some() { 2 } else { 1 }
 }
 
-/// The warnings about sentences whose condition no distribution gives weight, where the verdict is
-/// that there are distributions, and as far as that is shown in time.
-pub(crate) fn idle_noted<W: Company>(
+// Writes the warnings about the sentences whose first bounds have these places.
+fn write_idle(
     alloc: Global,
     input: Input<'_>,
-    trials: &Trials<'_>,
-    answer: &Answer,
-    timed: &mut InTime<'_, Engine, W>,
+    problem: &Problem,
+    idle: &[usize],
 ) -> Result<Vec<u8>, NoMemory> {
     let mut notes = Vec::new(alloc);
-    let Verdict::Consistent(model) = &answer.verdict else {
-        return Ok(notes);
-    };
-    let problem = trials.problem();
-    let weighed = weighed_in(alloc, problem, model, answer)?;
     let lines = sentence_lines(alloc, input.bytes)?;
     let bounds = problem.bound_list();
     let mut place = 0usize;
     for (index, sentence) in problem.sentences().as_slice().iter().enumerate() {
         if let Some(bound) = bounds.get(place) {
-            if is_unweighed(bound, &weighed) && is_idle(alloc, trials, bound, timed)? {
+            if idle.contains(&place) {
                 write_idle_condition(
                     alloc,
                     &mut notes,
@@ -142,4 +186,24 @@ pub(crate) fn idle_noted<W: Company>(
         place = place.saturating_add(bound_count(sentence));
     }
     Ok(notes)
+}
+
+/// The warnings about sentences whose condition no distribution gives weight, where the verdict is
+/// that there are distributions, and as far as that is shown in time.
+pub(crate) fn idle_noted<W: Company>(
+    alloc: Global,
+    settings: Settings,
+    input: Input<'_>,
+    trials: &Trials<'_>,
+    answer: &Answer,
+    timed: &mut InTime<'_, Engine, W>,
+) -> Result<Vec<u8>, NoMemory>
+    requires settings { AreSettings settings }
+{
+    let Verdict::Consistent(model) = &answer.verdict else {
+        return Ok(Vec::new(alloc));
+    };
+    let places = unweighed_places(alloc, trials.problem(), model, answer)?;
+    let idle = idle_among(alloc, settings, trials, places.as_slice(), timed)?;
+    write_idle(alloc, input, trials.problem(), idle.as_slice())
 }

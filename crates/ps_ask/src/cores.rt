@@ -9,7 +9,7 @@ ghost use Rattle.ps_ask.specs.Clashes.{IsCoreFor, IsCoreWithin, IsShownInconsist
 use crate::settings::Settings;
 use ps_answer::Cause;
 use ps_explain::{Explained, Numbers, explain};
-use ps_guess::{Guesser, InTime, Limits, MOST_TURNS, Watch, are_greatest, limits_at};
+use ps_guess::{Guesser, InTime, Limits, MOST_TURNS, Watch, Work, are_greatest, limits_at};
 use ps_io::NoMemory;
 use ps_problem::Problem;
 use ps_spoken::out_of_time;
@@ -106,7 +106,7 @@ pub(crate) fn core_in_time<G: Guesser, W: Watch>(
     ensures { IfOk result (IsCoreFor settings problem.now) }
 {
     for turn in 0..MOST_TURNS {
-        if timed.watch.is_over() {
+        if timed.watch.is_over() || !timed.watch.has_room(Work::Run, turn) {
             return Ok(Core::Open(out_of_time()));
         }
         if let Some(core) = core_at(alloc, problem, settings, turn, timed)? {

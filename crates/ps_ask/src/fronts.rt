@@ -6,6 +6,7 @@ ghost use Rattle.ps_ask.specs.Shown.{AreSettings};
 ghost use Rattle.ps_ask.specs.Fronts.{AreShownAfter, AreShownParts, IsBegunText, IsShownPart};
 ghost use Rattle.ps_ask.specs.Fronts.{IsShownVerdict, IsWhole, begun_of, part_piece, piece_of};
 ghost use Rattle.ps_ask.specs.Fronts.{pieces_of, verdict_piece, verdict_shown};
+ghost use Rattle.ps_ask.specs.Rounds.{IsPending};
 ghost use Rattle.ps_ask.specs.Replies.{AreAllPieces, AreShortInTime, CountsShown};
 ghost use Rattle.ps_ask.specs.Replies.{Adds, ArePieces, Stops, IsCut, IsPiece, IsVerdictPiece};
 
@@ -15,11 +16,12 @@ use crate::judged::{judged_part, judged_verdict};
 use crate::notes::Input;
 use crate::pieces::{part_piece, verdict_piece};
 use crate::reply::ReplyError;
+use crate::rounds::{Rounds, settle_query};
 use crate::settings::Settings;
 use crate::sought::Sought;
 use ps_answer::{Answer, Parts, QueryPart, Verdict};
 use ps_engine::Engine;
-use ps_guess::{InTime, Trials};
+use ps_guess::{InTime, Pending, Trials};
 use ps_io::{List, NoMemory, Sink, write_all};
 use ps_problem::{Problem, Query};
 use ps_table::Trace;
@@ -80,44 +82,48 @@ fn show_verdict<O: Sink, W: Company>(
     }
 }
 
-// The part of a query of the problem of trials, and its piece.
+// The part of a query of the problem of trials, of which this is known, and its piece.
 fn part_with_piece<W: Company>(
     alloc: Global,
     settings: Settings,
     trials: &Trials<'_>,
     query: Query,
+    pending: Pending,
     timed: &mut InTime<'_, Engine, W>,
 ) -> Result<(QueryPart, Vec<u8>), NoMemory>
     requires settings { AreSettings settings }
     requires query { HasNodes trials.now.nodes query.formula query.given query.both }
+    requires pending { IsPending settings trials.now query pending }
     ensures judged { IfOk result (λ r. IsShownPart settings trials.now query r.0) }
     ensures piece { IfOk result (λ r. r.1.items ≡ piece_of settings trials.now query r.0) }
 {
-    let part = judged_part(alloc, settings, trials, query, timed)?;
+    let part = judged_part(alloc, settings, trials, query, pending)?;
     let text = part_piece(alloc, settings, trials.problem(), query, &part)?;
     timed.watch.clear();
     Ok((part, text))
 }
 
-// Shows the part of a query of the problem of trials.
+// Shows the part of a query of the problem of trials, of which this is known.
 #[tactic(auto, using(crate::proofs::EndLaws::nothing_ended, crate::proofs::EndLaws::part_cut))]
 fn show_part<O: Sink, W: Company>(
     alloc: Global,
     settings: Settings,
     trials: &Trials<'_>,
     query: Query,
+    pending: Pending,
     timed: &mut InTime<'_, Engine, W>,
     sink: &mut O,
 ) -> Result<QueryPart, ReplyError>
     requires settings { AreSettings settings }
     requires query { HasNodes trials.now.nodes query.formula query.given query.both }
+    requires pending { IsPending settings trials.now query pending }
     ensures judged { IfOk result (IsShownPart settings trials.now query) }
     ensures wrote { IfOk result
         (Adds O.Sink sink.old sink.new (piece_of settings trials.now query)) }
     ensures ended { Stops O.Sink sink.old sink.new (IsPiece settings trials.now query) result }
     ensures faults { CountsShown result (O.faults sink.old) (O.faults sink.new) }
 {
-    match part_with_piece(alloc, settings, trials, query, timed) {
+    match part_with_piece(alloc, settings, trials, query, pending, timed) {
         Ok((part, text)) => match show_text(sink, &text) {
             Ok(()) => Ok(part),
             Err(error) => Err(error),
@@ -126,7 +132,8 @@ fn show_part<O: Sink, W: Company>(
     }
 }
 
-// Shows the part of each query of the problem of trials, as soon as it is done.
+// Shows the part of each query of the problem of trials, as soon as it and those before it are done.
+#[tactic(auto, using(crate::proofs::EndLaws::nothing_ended))]
 fn show_parts<O: Sink, W: Company>(
     alloc: Global,
     settings: Settings,
@@ -143,12 +150,15 @@ fn show_parts<O: Sink, W: Company>(
 {
     let mut parts = List::new(alloc);
     let queries = trials.problem().queries().as_slice();
+    let Ok(mut rounds) = Rounds::new(alloc, queries.len()) else {
+        return Err(ReplyError::NoMemory);
+    };
     for query in queries {
-        timed.watch.turn_to(Sought::Query {
-            number: parts.len().saturating_add(1),
-            of: queries.len(),
-        });
-        match show_part(alloc, settings, trials, *query, timed, sink) {
+        let place = parts.len();
+        let Ok(pending) = settle_query(alloc, settings, trials, place, &mut rounds, timed) else {
+            return Err(ReplyError::NoMemory);
+        };
+        match show_part(alloc, settings, trials, *query, pending, timed, sink) {
             Ok(part) => {
                 if parts.push(part).is_err() {
                     return Err(ReplyError::NoMemory);
@@ -226,11 +236,13 @@ fn warn_of_conditions<W: Company>(
     trials: &Trials<'_>,
     answer: &Answer,
     timed: &mut InTime<'_, Engine, W>,
-) {
+)
+    requires settings { AreSettings settings }
+{
     if !settings.warns {
         return;
     }
-    let noted = idle_noted(alloc, input, trials, answer, timed);
+    let noted = idle_noted(alloc, settings, input, trials, answer, timed);
     timed.watch.clear();
     if let Ok(text) = noted {
         timed.watch.note(&text);
@@ -262,10 +274,7 @@ pub fn show_front<O: Sink, W: Company>(
         return Err(ReplyError::NoMemory);
     };
     engine.pause_every(ROUNDS);
-    let mut timed = InTime {
-        guesser: &mut engine,
-        watch,
-    };
+    let mut timed = InTime::new(&mut engine, watch);
     match show_answer(alloc, settings, &trials, &mut timed, sink) {
         Ok(answer) => {
             warn_of_conditions(alloc, settings, input, &trials, &answer, &mut timed);

@@ -1,16 +1,17 @@
 //! What is shown of a problem's sentences and of its queries.
 ghost use Rattle.std.specs.Prelude.{◌≡◌, true, IfOk};
 ghost use Rattle.ps_problem.specs.Problems.{HasNodes};
+ghost use Rattle.ps_guess.specs.Known.{IsKnown};
+ghost use Rattle.ps_guess.specs.Solutions.{IsAnsweredPart, IsAnsweredVerdict};
 ghost use Rattle.ps_ask.specs.Shown.{AreSettings};
 ghost use Rattle.ps_ask.specs.Fronts.{IsShownPart, IsShownVerdict};
+ghost use Rattle.ps_ask.specs.Rounds.{IsPending};
 
 use crate::late::late_part;
 use crate::settings::Settings;
 use ps_answer::{QueryPart, Verdict};
 use ps_engine::Engine;
-use ps_guess::{
-    InTime, Known, Trials, Watch, answer_part, answer_verdict, part_in_time, verdict_in_time,
-};
+use ps_guess::{InTime, Known, Pending, Trials, Watch, last_verdict, run_beside, verdict_in_time};
 use ps_io::{List, NoMemory};
 use ps_problem::Query;
 use ps_spoken::out_of_time;
@@ -37,7 +38,24 @@ fn verdict_within<W: Watch>(
     }
 }
 
-/// The verdict on the problem of trials, with the events of its run.
+// The verdict without a limit of time: by a last run where no turn told it.
+fn whole_verdict<W: Watch>(
+    alloc: Global,
+    settings: Settings,
+    trials: &Trials<'_>,
+    timed: &mut InTime<'_, Engine, W>,
+) -> Result<(Verdict, Trace), NoMemory>
+    requires settings { AreSettings settings }
+    ensures { IfOk result (λ r. IsAnsweredVerdict settings.limits trials.now r.0 r.1) }
+{
+    match verdict_in_time(alloc, trials, settings.limits, timed)? {
+        Some(found) => Ok(found),
+        None => last_verdict(alloc, trials, settings.limits),
+    }
+}
+
+/// The verdict on the problem of trials, with the events of its run, by turns of guesses and runs;
+/// where time was over before, it is open.
 #[tactic(auto, using(crate::proofs::JudgedLaws::shown_verdict))]
 pub fn judged_verdict<W: Watch>(
     alloc: Global,
@@ -53,48 +71,75 @@ pub fn judged_verdict<W: Watch>(
     if settings.is_timed {
         return verdict_within(alloc, settings, trials, timed);
     }
-    answer_verdict(alloc, trials, settings.limits, timed)
+    whole_verdict(alloc, settings, trials, timed)
 }
 
-// The part of a query as far as time is left: where it was over before, the sides that were found.
+// The part of a query of which this is known where time was over: without an answer it has the sides
+// that were found.
 #[tactic(auto, using(crate::proofs::JudgedLaws::shown_part, crate::proofs::JudgedLaws::late_part))]
-fn part_within<W: Watch>(
+fn part_within(
     alloc: Global,
     settings: Settings,
     trials: &Trials<'_>,
     query: Query,
-    timed: &mut InTime<'_, Engine, W>,
-) -> Result<QueryPart, NoMemory>
+    known: Known,
+) -> QueryPart
     requires settings { AreSettings settings }
     requires timed { settings.is_timed ≡ true }
     requires query { HasNodes trials.now.nodes query.formula query.given query.both }
-    ensures { IfOk result (IsShownPart settings trials.now query) }
+    requires known { IsKnown settings.limits trials.now query known }
+    ensures { IsShownPart settings trials.now query result }
 {
     // Called for its clause: the problem is in order.
     let _sound = trials.problem();
-    match part_in_time(alloc, trials, query, settings.limits, timed)? {
-        Known::Answered(part) => Ok(part),
-        Known::Sides { lower, upper } => Ok(late_part(alloc, lower, upper)),
+    match known {
+        Known::Answered(part) => part,
+        Known::Sides { lower, upper } => late_part(alloc, lower, upper),
     }
 }
 
-/// The part of a query of the problem of trials.
-#[tactic(auto, using(crate::proofs::JudgedLaws::shown_part))]
-pub fn judged_part<W: Watch>(
+// The part of a query of which this is known, without a limit of time: by a run beside the sides that
+// were found where the answer isn't known.
+fn whole_part(
     alloc: Global,
     settings: Settings,
     trials: &Trials<'_>,
     query: Query,
-    timed: &mut InTime<'_, Engine, W>,
+    known: Known,
 ) -> Result<QueryPart, NoMemory>
     requires settings { AreSettings settings }
     requires query { HasNodes trials.now.nodes query.formula query.given query.both }
+    requires known { IsKnown settings.limits trials.now query known }
+    ensures { IfOk result (IsAnsweredPart settings.limits trials.now query) }
+{
+    match known {
+        Known::Answered(part) => Ok(part),
+        Known::Sides { lower, upper } => {
+            run_beside(alloc, trials, query, settings.limits, lower, upper)
+        }
+    }
+}
+
+/// The part of a query of the problem of trials, of which this is known at the end of all turns: where
+/// time was over, with the sides that were found, and else by a run beside them.
+#[tactic(auto, using(crate::proofs::JudgedLaws::shown_part))]
+pub fn judged_part(
+    alloc: Global,
+    settings: Settings,
+    trials: &Trials<'_>,
+    query: Query,
+    pending: Pending,
+) -> Result<QueryPart, NoMemory>
+    requires settings { AreSettings settings }
+    requires query { HasNodes trials.now.nodes query.formula query.given query.both }
+    requires pending { IsPending settings trials.now query pending }
     ensures { IfOk result (IsShownPart settings trials.now query) }
 {
     // Called for its clause: the problem is in order.
     let _sound = trials.problem();
+    let Pending { known, .. } = pending;
     if settings.is_timed {
-        return part_within(alloc, settings, trials, query, timed);
+        return Ok(part_within(alloc, settings, trials, query, known));
     }
-    answer_part(alloc, trials, query, settings.limits, timed)
+    whole_part(alloc, settings, trials, query, known)
 }

@@ -1,7 +1,11 @@
 -- What is known of a query, where time may be over before it is answered.
-use Rattle.std.specs.Prelude.{Option, Some, IfSome, IsSome, ◌≡◌}
+use Rattle.std.specs.Prelude.{ℕ, ◌⊎◌, List, Option, Some, None, IfSome, IsSome, ◌≡◌}
 use Rattle.ps_problem.specs.declared.query.Query.{Query}
 use Rattle.ps_problem.specs.Problems.{Parts}
+use Rattle.ps_table.specs.declared.event.Event.{Event}
+use Rattle.ps_answer.specs.declared.answer.Cause.{Cause}
+use Rattle.ps_answer.specs.declared.answer.Verdict.{Verdict}
+use Rattle.ps_answer.specs.declared.answer.Verdict.TheVariants.{Open}
 use Rattle.ps_answer.specs.declared.answer.SideAnswer.{SideAnswer}
 use Rattle.ps_answer.specs.declared.answer.QueryAnswer.{QueryAnswer}
 use Rattle.ps_answer.specs.declared.answer.QueryAnswer.TheVariants as query
@@ -13,7 +17,8 @@ use Rattle.ps_claims.specs.Validity.{IsValidSide}
 use Rattle.ps_claims.specs.Printed.{IsPrintedSide}
 use Rattle.ps_runs.specs.declared.limits.Limits.{Limits}
 use Rattle.ps_guess.specs.Trials.{IsFoundSide}
-use Rattle.ps_query.specs.Parts.{IsPartOf}
+use Rattle.ps_guess.specs.Turns.{limits_in}
+use Rattle.ps_query.specs.Parts.{IsPartOf, IsVerdictOf}
 use Rattle.ps_query.specs.Settled.{IsClosed}
 use Rattle.ps_guess.specs.Solutions.{IsAnsweredPart}
 use Rattle.ps_guess.specs.declared.known.Known.{Known}
@@ -57,10 +62,14 @@ abbrev pub HasAnswer : Known → Type 0
 HasAnswer (Answered part) = Unit {0}
 HasAnswer (Sides lower upper) = ⊥
 
+-- a side that was found before is not lost
+abbrev pub KeepsSide : Option SideAnswer → Option SideAnswer → Type 0
+KeepsSide found side = IfSome found (λ a. side ≡ Some a)
+
 -- no side that was found before is lost: the answer is known, or each of these sides still is
 abbrev pub KeepsSides : Option SideAnswer → Option SideAnswer → Known → Type 0
 KeepsSides lower upper (Answered part) = Unit {0}
-KeepsSides lower upper (Sides l u) = IfSome lower (λ a. l ≡ Some a) × IfSome upper (λ a. u ≡ Some a)
+KeepsSides lower upper (Sides l u) = KeepsSide lower l × KeepsSide upper u
 
 -- nothing that was known before is lost: an answer stays one, and of sides none is lost
 abbrev pub KeepsKnown : Known → Known → Type 0
@@ -74,3 +83,24 @@ TakesBounds run (Answered part) = Unit {0}
 TakesBounds (query.Bounds lower les upper ues) (Sides l u) = (IsClosed lower → IsSome l) × (IsClosed upper → IsSome u)
 TakesBounds (query.Impossible d) (Sides l u) = ⊥
 TakesBounds (query.Open cause) (Sides l u) = Unit {0}
+
+-- a run within some limits led to a part of the query of which no bound is lost
+pub record TakesRun (own : Limits) (p : Parts) (q : Query) (known : Known) : Type 0 where
+  pub run : QueryPart
+  pub led : IsPartOf own p q run
+  pub taken : TakesBounds run.answer known
+
+-- no run was needed, since the answer is known, or one within the limits of a turn led to a part of which no bound is lost
+abbrev pub TakesTurn : Limits → ℕ → Parts → Query → Known → Type 0
+TakesTurn limits turn p q known = HasAnswer known ⊎ TakesRun (limits_in limits turn) p q known
+
+-- a run within some limits left the verdict open
+pub record LeavesOpen (own : Limits) (p : Parts) : Type 0 where
+  pub cause : Cause
+  pub events : List Event
+  pub led : IsVerdictOf own p (Open cause) events
+
+-- there is a verdict, or a run within the limits of a turn left it open
+abbrev pub TakesVerdict : Limits → ℕ → Parts → Option (Verdict × List Event) → Type 0
+TakesVerdict limits turn p (Some found) = Unit {0}
+TakesVerdict limits turn p None = LeavesOpen (limits_in limits turn) p

@@ -34,12 +34,25 @@ pub fn answer_verdict<G: Guesser>(
 {
     match found_verdict(alloc, trials, guesser)? {
         Some(found) => Ok(found),
-        None => verdict_part(alloc, trials.problem(), limits),
+        None => last_verdict(alloc, trials, limits),
     }
 }
 
+/// The verdict on the problem of trials by a run.
+#[tactic(auto, using(crate::proofs::Settled::run_verdict))]
+pub fn last_verdict(
+    alloc: Global,
+    trials: &Trials<'_>,
+    limits: Limits,
+) -> Result<(Verdict, Trace), NoMemory>
+    requires limits { AreLimits limits }
+    ensures { IfOk result (λ r. IsAnsweredVerdict limits trials.now r.0 r.1) }
+{
+    verdict_part(alloc, trials.problem(), limits)
+}
+
 /// The answer to a query by a run, with the sides that were found in place of the run's.
-pub(crate) fn run_beside(
+pub fn run_beside(
     alloc: Global,
     trials: &Trials<'_>,
     query: Query,

@@ -1,5 +1,6 @@
 //! Guesses of the bounds of queries.
-ghost use Rattle.std.specs.Prelude.{Some, IfOk, IfSome};
+ghost use Rattle.std.specs.Prelude.{◌≤◌, Some, IfOk, IfSome};
+ghost use Rattle.ps_log.specs.declared.limits.TheConstants.{MOST_CONFLICTS};
 ghost use Rattle.ps_problem.specs.Problems.{HasNodes};
 ghost use Rattle.ps_claims.specs.Printed.{IsPrintedDual};
 ghost use Rattle.ps_valid.specs.Limits.{IsSmallModel};
@@ -40,8 +41,8 @@ fn shown_bound(
 impl<'p> Trials<'p> {
     /// Whether the guess shows the bound of the query on this side that is the dual's head over its
     /// top: a distribution that reaches it, and a dual, with a multiplier for each bound of the
-    /// problem, whose steps are sought here. Before the search the judge of claims looks at all but
-    /// the steps, and after it at all.
+    /// problem, whose steps are sought here. Before the search, which learns at most so many
+    /// clauses, the judge of claims looks at all but the steps, and after it at all.
     pub fn bound(
         &self,
         alloc: Global,
@@ -49,8 +50,10 @@ impl<'p> Trials<'p> {
         query: Query,
         model: Model,
         dual: Dual,
+        conflicts: u64,
     ) -> Result<Trial<SideAnswer>, NoMemory>
         requires query { HasNodes self.now.nodes query.formula query.given query.both }
+        requires few { conflicts ≤ MOST_CONFLICTS }
         ensures shown { IfOk result (IsTrialOf (IsFoundSide self.now kind query)) }
         ensures against { IfOk result (FindsAgainst self.now kind (Some query) dual) }
     {
@@ -66,7 +69,7 @@ impl<'p> Trials<'p> {
             None | Some(Reason::NotRefuted) => {}
             Some(reason) => return Ok(Trial::Wrong(reason)),
         }
-        match self.refute(alloc, kind, Some(query), dual)? {
+        match self.refute(alloc, kind, Some(query), dual, conflicts)? {
             Trial::Shown(dual) => match shown_bound(
                 alloc, problem, kind, query, value, model, dual,
             )? {

@@ -1,5 +1,6 @@
 //! Guesses that nothing is allowed.
-ghost use Rattle.std.specs.Prelude.{IfOk, IfSome};
+ghost use Rattle.std.specs.Prelude.{◌≤◌, IfOk, IfSome};
+ghost use Rattle.ps_log.specs.declared.limits.TheConstants.{MOST_CONFLICTS};
 ghost use Rattle.ps_problem.specs.Problems.{HasNodes};
 ghost use Rattle.ps_claims.specs.declared.claim_kind.ClaimKind.TheVariants.{Nothing};
 ghost use Rattle.ps_guess.specs.Trials.{FindsAgainst, IsFoundDual, IsTrialOf};
@@ -15,15 +16,17 @@ use ps_valid::check_dual;
 use std::alloc::Global;
 
 impl<'p> Trials<'p> {
-    /// Whether the guess, a dual whose steps are sought here, shows that no distribution that meets
-    /// each bound gives the query's evidence positive probability; without a query, that there is
-    /// no such distribution.
+    /// Whether the guess, a dual whose steps are sought here by a search that learns at most so many
+    /// clauses, shows that no distribution that meets each bound gives the query's evidence positive
+    /// probability; without a query, that there is no such distribution.
     pub fn nothing(
         &self,
         alloc: Global,
         query: Option<Query>,
         dual: Dual,
+        conflicts: u64,
     ) -> Result<Trial<Dual>, NoMemory>
+        requires few { conflicts ≤ MOST_CONFLICTS }
         requires query { IfSome query (λ q. HasNodes self.now.nodes q.formula q.given q.both) }
         ensures shown { IfOk result (IsTrialOf (IsFoundDual self.now query)) }
         ensures against { IfOk result (FindsAgainst self.now Nothing query dual) }
@@ -37,7 +40,7 @@ impl<'p> Trials<'p> {
             None | Some(Reason::NotRefuted) => {}
             Some(reason) => return Ok(Trial::Wrong(reason)),
         }
-        match self.refute(alloc, ClaimKind::Nothing, query, dual)? {
+        match self.refute(alloc, ClaimKind::Nothing, query, dual, conflicts)? {
             Trial::Shown(shown) => match check_dual(alloc, problem, given, &shown)? {
                 Some(reason) => Ok(Trial::Wrong(reason)),
                 None => Ok(Trial::Shown(shown)),

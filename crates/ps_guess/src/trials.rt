@@ -92,6 +92,13 @@ impl<'p> Trials<'p> {
         self.problem
     }
 
+    /// How many clauses a search learns at most, where nothing else is said.
+    pub fn conflicts(&self) -> u64
+        ensures { result ≤ MOST_CONFLICTS }
+    {
+        self.conflicts
+    }
+
     // The goal that the combination of a dual is at least 1.
     fn goal(
         &self,
@@ -123,16 +130,18 @@ impl<'p> Trials<'p> {
     }
 
     /// The dual with the steps of a refutation, where its combination is below 1 in each world: one
-    /// search looks for a world in which it isn't.
+    /// search, which learns at most so many clauses, looks for a world in which it isn't.
     pub(crate) fn refute(
         &self,
         alloc: Global,
         kind: ClaimKind,
         query: Option<Query>,
         dual: Dual,
+        conflicts: u64,
     ) -> Result<Trial<Dual>, NoMemory>
         requires asked { IsAsked kind self.now query }
         requires small { IsSmallDual dual }
+        requires few { conflicts ≤ MOST_CONFLICTS }
         ensures shown { IfOk result (IsTrialOf IsPrintedDual) }
         ensures against { IfOk result (FindsAgainst self.now kind query dual) }
     {
@@ -140,7 +149,7 @@ impl<'p> Trials<'p> {
             return Ok(Trial::Wrong(Reason::WrongShape));
         }
         let goal = self.goal(alloc, kind, query, &dual)?;
-        let Searched { outcome, steps } = seek(alloc, &self.form, &goal, self.conflicts)?;
+        let Searched { outcome, steps } = seek(alloc, &self.form, &goal, conflicts)?;
         match outcome {
             Outcome::Refuted { last: _ } => Ok(Trial::Shown(with_steps(dual, steps))),
             Outcome::Spent { learned: _ } => Ok(Trial::Spent),

@@ -1,7 +1,8 @@
 //! What is beside an answer: the clock, where time is limited, and standard error.
 use crate::number::number_within;
+use crate::pieces::Pieces;
 use crate::progress::{figures_of, words_of};
-use ps_ask::{ClaimKind, Company, Progress, Sought, Watch};
+use ps_ask::{ClaimKind, Company, Progress, Sought, Watch, Work};
 use std::env;
 use std::io::IsTerminal;
 use std::time::{Duration, Instant};
@@ -45,6 +46,8 @@ pub struct Beside<'a> {
     limit: Option<Duration>,
     start: Option<Instant>,
     is_over: bool,
+    // How long pieces of work took that don't stop on their way.
+    pieces: Pieces,
     // The columns of the line that tells how far the answer is; none where it isn't told.
     columns: Option<usize>,
     // How many of them were told.
@@ -64,6 +67,7 @@ impl<'a> Beside<'a> {
             limit: seconds.map(Duration::from_secs),
             start: None,
             is_over: false,
+            pieces: Pieces::new(rt.alloc()),
             columns: if is_line_told {
                 Some(columns_told(rt))
             } else {
@@ -74,16 +78,21 @@ impl<'a> Beside<'a> {
         }
     }
 
-    // Whether so much time went by since this was first asked.
-    fn is_past(&mut self, limit: Duration) -> bool {
+    // How much time went by since this was first asked; none where the clock can't be read.
+    fn time_gone(&mut self) -> Option<Duration> {
         let Some(start) = self.start else {
             self.start = Instant::now(self.rt).ok();
-            return self.start.is_none();
+            return self.start.map(|_| Duration::from_secs(0));
         };
-        match start.elapsed(self.rt) {
-            Ok(elapsed) => elapsed >= limit,
-            Err(_) => true,
-        }
+        start.elapsed(self.rt).ok()
+    }
+
+    // How much of the time is left; none where it is over.
+    fn left_of(&mut self, limit: Duration) -> Option<Duration> {
+        let elapsed = self.time_gone()?;
+        self.pieces.end_at(elapsed);
+        let left = limit.checked_sub(elapsed)?;
+        if left.is_zero() { None } else { Some(left) }
     }
 
     // Writes the line that tells what is sought, and how far it is, as much of it as has room. The
@@ -109,10 +118,24 @@ impl<'a> Watch for Beside<'a> {
     fn is_over(&mut self) -> bool {
         if let Some(limit) = self.limit {
             if !self.is_over {
-                self.is_over = self.is_past(limit);
+                self.is_over = self.left_of(limit).is_none();
             }
         }
         self.is_over
+    }
+
+    fn has_room(&mut self, work: Work, turn: u32) -> bool {
+        let Some(limit) = self.limit else {
+            return true;
+        };
+        let Some(left) = self.left_of(limit) else {
+            return false;
+        };
+        if !self.pieces.has_room(work, turn, left) {
+            return false;
+        }
+        self.pieces.begin(work, limit.saturating_sub(left));
+        true
     }
 
     fn tell(&mut self, kind: ClaimKind, progress: Progress) {
@@ -131,6 +154,11 @@ impl<'a> Company for Beside<'a> {
     }
 
     fn turn_to(&mut self, sought: Sought) {
+        if let Some(limit) = self.limit {
+            // A piece that is under way has ended.
+            let _ = self.left_of(limit);
+            self.pieces.turn_to(sought);
+        }
         self.sought = sought;
         self.write_line("");
     }

@@ -7,6 +7,7 @@ mod inlet;
 mod meant;
 mod number;
 mod options;
+mod pieces;
 mod progress;
 mod reasons;
 mod refused;

@@ -8,7 +8,9 @@ use crate::progress::figures_of;
 use crate::refused::Refused;
 use crate::request::{Asked, Request, request_of};
 use ps_answer::Answer;
-use ps_ask::{ClaimKind, Company, Progress, Settings, Sinks, Sought, Status, Style, Watch, ask};
+use ps_ask::{
+    ClaimKind, Company, Progress, Settings, Sinks, Sought, Status, Style, Watch, Work, ask,
+};
 use ps_io::{MemSink, MemSource, NoMemory};
 use ps_read::read_whole;
 use ps_reader::read_report;
@@ -281,6 +283,10 @@ struct Alone;
 impl Watch for Alone {
     fn is_over(&mut self) -> bool {
         false
+    }
+
+    fn has_room(&mut self, _work: Work, _turn: u32) -> bool {
+        true
     }
 
     fn tell(&mut self, _kind: ClaimKind, _progress: Progress) {}

@@ -11,7 +11,7 @@ pub returns-in_ok-world-in-Found-clause-against : goal.returns-in_ok-world-in-Fo
 returns-in_ok-world-in-Found-clause-against c =
     let p = c.args.self.now in
     let g = c.in_ok-goal.goal in
-    let conflicts = c.self.inside.conflicts in
+    let conflicts = c.args.conflicts in
     let are : AreParts p = search rules in
     let form : c.self.inside.form ≡ form_of p.nodes = subst (λ (x : Parts). c.self.inside.form ≡ form_of x.nodes) c.self.view_is c.self.invariant.0 in
     let found = subst (λ (o : Outcome). IsOutcome c.self.inside.form g conflicts o) c.in-Found.is c.in_ok-outcome.ensures.outcome in
