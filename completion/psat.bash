@@ -30,10 +30,30 @@ _psat() {
 }
 complete -o default -F _psat psat
 
+# Offers kinds of warnings behind those that the word names, with commas between them.
+_psat_kinds() {
+    local front=
+    case $1 in *,*) front=${1%,*}, ;; esac
+    mapfile -t COMPREPLY < <(compgen -P "$front" -W 'or interval twice name unstated condition' -- "${1##*,}")
+}
+
+# Offers the values of an option that stand behind its `=`.
+_psat_behind() {
+    case $1 in
+    --no-warnings) _psat_kinds "$2" ;;
+    --quiet) mapfile -t COMPREPLY < <(compgen -W exact -- "$2") ;;
+    esac
+}
+
 _psat_ask() {
     local before=${COMP_WORDS[COMP_CWORD-1]} now=${COMP_WORDS[COMP_CWORD]}
     COMPREPLY=()
+    if [ "$now" = = ]; then
+        _psat_behind "$before" ''
+        return
+    fi
     case $before in
+    =) _psat_behind "${COMP_WORDS[COMP_CWORD-2]}" "$now" ;;
     --report) [ -n "$now" ] || COMPREPLY=(-) ;;
     --digits | --pivots | --conflicts | --time-limit) ;;
     *)

@@ -3,7 +3,7 @@ ghost use Rattle.ps_ask.specs.Shown.{AreSettings};
 
 use late_rows::{LATE, RESTS};
 use ps_ask::{
-    ClaimKind, Company, Progress, Settings, Sinks, Sought, Status, Style, Watch, Work, ask,
+    ClaimKind, Company, Progress, Settings, Sinks, Sought, Status, Style, Wanted, Watch, Work, ask,
 };
 use ps_guess::Limits;
 use ps_io::{MemSink, MemSource, NoMemory};
@@ -27,7 +27,7 @@ fn settings(style: Style) -> Settings
         digits: DIGITS,
         style,
         reports: true,
-        warns: true,
+        warns: Wanted::all(true),
         is_timed: false,
     }
 }
@@ -111,11 +111,35 @@ fn inputs_are_answered(rt: HostRuntime) -> Result<(), Fail> {
     Ok(())
 }
 
+// The front of an object that has a name without what a terminal may take for a command: the ends of
+// what is written by its number, with the next characters, which stand as they are.
+const ODD_NAME: &str =
+    "a\u{7f}\u{80}\u{9f}\u{a0}\u{2029}\u{202a}\u{202e}\u{202f}\u{2065}\u{2066}\u{2069}";
+
+const ODD_FRONT: &str = concat!(
+    "{\"file\":\"a\\u007f\\u0080\\u009f\u{a0}\u{2029}",
+    "\\u202a\\u202e\u{202f}\u{2065}\\u2066\\u2069\",",
+);
+
+#[test]
+fn names_in_objects_are_no_commands(rt: HostRuntime) -> Result<(), Fail> {
+    let alloc = rt.alloc();
+    let bytes = Vec::from_slice(alloc, b"psat 1; end;")?;
+    let mut source = MemSource::new(bytes, 7, Vec::new(alloc));
+    let mut sinks = sinks(alloc, 10_000)?;
+    let mut watch = watch_for(alloc, 100);
+    let json = settings(Style::Json);
+    let status = ask(alloc, json, ODD_NAME, &mut source, &mut sinks, &mut watch);
+    assert!(rt; status == Status::Done);
+    assert!(rt; sinks.shown.bytes().starts_with(ODD_FRONT.as_bytes()));
+    Ok(())
+}
+
 #[test]
 fn warnings_are_left_out_where_none_are_wanted(rt: HostRuntime) -> Result<(), Fail> {
     for row in &UNWARNED {
         let mut unwarned = settings(row.style);
-        unwarned.warns = false;
+        unwarned.warns = Wanted::all(false);
         assert!(rt; shows(rt.alloc(), unwarned, row)?);
     }
     Ok(())

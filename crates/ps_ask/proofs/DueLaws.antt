@@ -118,6 +118,11 @@ unread_shown s name bytes e kind l k o is told = let at = rw is at told in recor
   due = NoProblem kind (record { line = l; column = k }) at refl;
 }
 
+-- what is told against bytes is so
+pub unread_at : (bytes : List ℕ) (e : ReadError) (kind : ReadKind) (l k : ℕ) → e ≡ unread.At kind l k → Tells (IsUnreadWhole bytes) e
+    → IsUnreadWhole bytes kind (record { line = l; column = k })
+unread_at bytes e kind l k is told = rw is at told
+
 -- all bytes that were left were taken
 pub whole-is : (most : ℕ) (old new : Option (List ℕ)) (taken bytes : List ℕ) → ReadAll most old new taken → old ≡ Some bytes → taken ≡ bytes
 whole-is most None new taken bytes h e = absurd (cc)

@@ -22,9 +22,10 @@ use Rattle.ps_guess.proofs.Settled.{solution, short}
 use Rattle.ps_spoken.specs.Spoken.{spoken, part_text, paired_text}
 use Rattle.ps_spoken.specs.Quiet.{values_of}
 use Rattle.ps_spoken.proofs.Values.{values-push}
+use Rattle.ps_spoken.proofs.ExactLines.{exact-push}
 use Rattle.ps_ask.specs.declared.settings.Settings.{Settings}
 use Rattle.ps_ask.specs.declared.settings.Style.{Style}
-use Rattle.ps_ask.specs.declared.settings.Style.TheVariants.{Words, Values, Json, Report}
+use Rattle.ps_ask.specs.declared.settings.Style.TheVariants.{Words, Values, Exact, Json, Report}
 use Rattle.ps_ask.specs.Late.{is_late, is_late_answer, is_late_in, is_late_verdict}
 use Rattle.ps_ask.specs.Fronts.{AreShownParts, IsBegunText, IsLatePart, IsLateVerdict, IsShownPart, IsShownVerdict, IsWhole, begun_text, part_piece, parts_pieces, verdict_piece}
 use Rattle.ps_ask.specs.Replies.{AreShortInTime, ArePiecesFor, IsPiece, IsVerdictPiece}
@@ -34,6 +35,7 @@ begun_is : (style : Style) (digits : ℕ) (p : Parts) (a : Answer) → begun_tex
 unfolding spoken values_of
 begun_is Words digits p a = refl
 begun_is Values digits p a = refl
+begun_is Exact digits p a = refl
 begun_is Json digits p a = refl
 begun_is Report digits p a = refl
 
@@ -51,6 +53,7 @@ module _ {A B : Type 0} (text : A → B → List ℕ) where
 pub pieces_none : (style : Style) (digits : ℕ) (p : Parts) → parts_pieces style digits p [] ≡ []
 pieces_none Words digits p = paired-none (part_text digits p) p.queries
 pieces_none Values digits p = refl
+pieces_none Exact digits p = refl
 pieces_none Json digits p = refl
 pieces_none Report digits p = refl
 
@@ -58,6 +61,7 @@ pieces_next : (style : Style) (digits : ℕ) (p : Parts) (parts : List QueryPart
     → parts_pieces style digits p (parts ++ part ∷ []) ≡ parts_pieces style digits p parts ++ part_piece style digits p (get_or p.queries (length parts) d) part
 pieces_next Words digits p parts part d lt = paired-next (part_text digits p) p.queries parts part d lt
 pieces_next Values digits p parts part d lt = values-push digits parts part
+pieces_next Exact digits p parts part d lt = exact-push parts part
 pieces_next Json digits p parts part d lt = refl
 pieces_next Report digits p parts part d lt = refl
 

@@ -8,7 +8,7 @@ use Rattle.ps_spoken.specs.declared.object.Told.{Told}
 use Rattle.ps_spoken.specs.Objects.{Beside, facts, object}
 use Rattle.ps_ask.specs.declared.settings.Settings.{Settings}
 use Rattle.ps_ask.specs.declared.settings.Style.{Style}
-use Rattle.ps_ask.specs.declared.settings.Style.TheVariants.{Words, Values, Json, Report}
+use Rattle.ps_ask.specs.declared.settings.Style.TheVariants.{Words, Values, Exact, Json, Report}
 use Rattle.ps_ask.specs.declared.reply.Reply.{Reply}
 use Rattle.ps_ask.specs.Clashes.{IsClashAt}
 use Rattle.ps_ask.specs.Statuses.{open_in, status_after, status_number}
@@ -26,7 +26,7 @@ shown-as s name p a r t style e told is of = record {
 
 -- what goes with an answer, beside sentences that clash and their lines
 abbrev beside-of : Settings → List ℕ → Answer → List ℕ → Option Clash → Beside
-beside-of s name a lines clash = record { digits = s.digits; file = name; clash = clash; lines = lines; unfinished = pos (open_in a); status = status_number (status_after s.is_timed a) }
+beside-of s name a lines clash = record { digits = s.digits; file = name; clash = clash; lines = lines; warnings = []; unfinished = pos (open_in a); status = status_number (status_after s.is_timed a) }
 
 beside-told : (s : Settings) (name : List ℕ) (p : Parts) (a : Answer) (lines : List ℕ) (clash : Option Clash) → IsClashFor s.style s p a.verdict clash
     → IsToldFor s name p a (beside-of s name a lines clash)
@@ -42,6 +42,9 @@ words_shown s name p a r lines clash e c is of =
 
 pub values_shown : (s : Settings) (name : List ℕ) (p : Parts) (a : Answer) (r : Reply) → s.style ≡ Values → last_of s.is_timed r ≡ [] → IsOf a r → IsShownFor s name p a r
 values_shown s name p a r e is of = shown-as s name p a r (beside-of s name a [] None) Values e (beside-told s name p a [] None (clash-as s p a Values None e refl)) is of
+
+pub exact_shown : (s : Settings) (name : List ℕ) (p : Parts) (a : Answer) (r : Reply) → s.style ≡ Exact → last_of s.is_timed r ≡ [] → IsOf a r → IsShownFor s name p a r
+exact_shown s name p a r e is of = shown-as s name p a r (beside-of s name a [] None) Exact e (beside-told s name p a [] None (clash-as s p a Exact None e refl)) is of
 
 pub report_shown : (s : Settings) (name : List ℕ) (p : Parts) (a : Answer) (r : Reply) → s.style ≡ Report → last_of s.is_timed r ≡ report_of s.is_timed a → IsOf a r
     → IsShownFor s name p a r

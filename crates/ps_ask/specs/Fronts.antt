@@ -17,10 +17,11 @@ use Rattle.ps_claims.specs.Printed.{IsPrintedPart}
 use Rattle.ps_guess.specs.Known.{AreFound}
 use Rattle.ps_guess.specs.Solutions.{IsAnsweredPart, IsAnsweredVerdict, IsSettledSolution}
 use Rattle.ps_spoken.specs.Spoken.{spoken, out_of_time, verdict_text, part_text, parts_text}
+use Rattle.ps_spoken.specs.Exact.{exact_of, query_exact, parts_exact}
 use Rattle.ps_spoken.specs.Quiet.{values_of, verdict_value, query_values, parts_values}
 use Rattle.ps_ask.specs.declared.settings.Settings.{Settings}
 use Rattle.ps_ask.specs.declared.settings.Style.{Style}
-use Rattle.ps_ask.specs.declared.settings.Style.TheVariants.{Words, Values, Json, Report}
+use Rattle.ps_ask.specs.declared.settings.Style.TheVariants.{Words, Values, Exact, Json, Report}
 use Rattle.ps_ask.specs.Late.{is_late, is_late_answer, IsOpenByTime}
 
 -- ---- what is judged
@@ -84,6 +85,7 @@ pub record IsWhole (s : Settings) (p : Parts) (a : Answer) : Type 0 where
 abbrev pub begun_text : Style → ℕ → Parts → Answer → List ℕ
 begun_text Words digits p a = spoken digits p a
 begun_text Values digits p a = values_of digits a
+begun_text Exact digits p a = exact_of a
 begun_text Json digits p a = []
 begun_text Report digits p a = []
 
@@ -91,6 +93,7 @@ begun_text Report digits p a = []
 abbrev pub verdict_piece : Style → Verdict → List ℕ
 verdict_piece Words v = verdict_text v
 verdict_piece Values v = verdict_value v
+verdict_piece Exact v = verdict_value v
 verdict_piece Json v = []
 verdict_piece Report v = []
 
@@ -98,6 +101,7 @@ verdict_piece Report v = []
 abbrev pub part_piece : Style → ℕ → Parts → Query → QueryPart → List ℕ
 part_piece Words digits p q part = part_text digits p q part
 part_piece Values digits p q part = query_values digits part.answer
+part_piece Exact digits p q part = query_exact part.answer
 part_piece Json digits p q part = []
 part_piece Report digits p q part = []
 
@@ -105,6 +109,7 @@ part_piece Report digits p q part = []
 abbrev pub parts_pieces : Style → ℕ → Parts → List QueryPart → List ℕ
 parts_pieces Words digits p parts = parts_text digits p p.queries parts
 parts_pieces Values digits p parts = parts_values digits parts
+parts_pieces Exact digits p parts = parts_exact parts
 parts_pieces Json digits p parts = []
 parts_pieces Report digits p parts = []
 

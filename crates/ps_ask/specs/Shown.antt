@@ -21,7 +21,7 @@ use Rattle.ps_spoken.specs.Objects.{Beside, object}
 use Rattle.ps_ask.specs.declared.answering.TheConstants.{MOST_PROBLEM}
 use Rattle.ps_ask.specs.declared.settings.Settings.{Settings}
 use Rattle.ps_ask.specs.declared.settings.Style.{Style}
-use Rattle.ps_ask.specs.declared.settings.Style.TheVariants.{Words, Values, Json, Report}
+use Rattle.ps_ask.specs.declared.settings.Style.TheVariants.{Words, Values, Exact, Json, Report}
 use Rattle.ps_ask.specs.declared.sinks.Sinks.{Sinks}
 use Rattle.ps_ask.specs.declared.status.Status.{Status}
 use Rattle.ps_ask.specs.declared.status.Status.TheVariants.{Unreadable, ReadFault, WriteFault, ReportFault, NoMemory}
@@ -49,6 +49,7 @@ clash_words p lines None = []
 abbrev pub last_text : Style → Bool → Parts → Answer → Beside → List ℕ
 last_text Words timed p a t = clash_words p t.lines t.clash
 last_text Values timed p a t = []
+last_text Exact timed p a t = []
 last_text Json timed p a t = object p a t
 last_text Report timed p a t = report_of timed a
 

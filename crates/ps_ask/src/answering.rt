@@ -12,7 +12,7 @@ ghost use Rattle.ps_ask.specs.Replies.{Shows, Solves, Tells, status_with};
 
 use crate::company::Company;
 use crate::fronts::show_front;
-use crate::notes::{Input, length_noted, refusal_noted, warnings_noted};
+use crate::notes::{Input, MISSING, length_noted, problem_noted, refusal_noted};
 use crate::reply::{Reply, ReplyError};
 use crate::settings::Settings;
 use crate::shown::show_last;
@@ -55,7 +55,7 @@ fn reply_to_problem<O: Sink, W: Company>(
 }
 
 // Warns of what a problem may not mean, where warnings are wanted. Where memory for them is lacking
-// they are left out.
+// that is noted.
 fn warn_of_problem<W: Company>(
     alloc: Global,
     settings: Settings,
@@ -63,11 +63,13 @@ fn warn_of_problem<W: Company>(
     problem: &Problem,
     watch: &mut W,
 ) {
-    if !settings.warns {
-        return;
-    }
-    if let Ok(text) = warnings_noted(alloc, input, problem) {
-        watch.note(&text);
+    match problem_noted(alloc, settings, input, problem) {
+        Ok(text) => {
+            if !text.is_empty() {
+                watch.note(&text);
+            }
+        }
+        Err(NoMemory) => watch.note(MISSING),
     }
 }
 

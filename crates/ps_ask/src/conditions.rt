@@ -12,7 +12,7 @@ use ps_answer::{Answer, Model, QueryAnswer, SideAnswer, Verdict};
 use ps_engine::Engine;
 use ps_float_pricing::Member;
 use ps_guess::{InTime, Trials, nothing_in_time};
-use ps_hints::{sentence_lines, write_idle_condition};
+use ps_hints::{Warning, idle_warning, sentence_lines};
 use ps_io::{List, NoMemory};
 use ps_problem::{Bound, Problem, Query, Sentence};
 use std::alloc::Global;
@@ -107,8 +107,8 @@ fn is_idle<W: Company>(
     Ok(false)
 }
 
-/// The places among the bounds of the problem, from 0, of those among these whose condition no
-/// distribution gives weight, as far as that is shown in time.
+// The places among the bounds of the problem, from 0, of those among these whose condition no
+// distribution gives weight, as far as that is shown in time.
 fn idle_among<W: Company>(
     alloc: Global,
     settings: Settings,
@@ -129,6 +129,11 @@ fn idle_among<W: Company>(
         }
     }
     Ok(idle)
+}
+
+// How many bounds a sentence states.
+fn bound_count(sentence: &Sentence) -> usize {
+    if sentence.second.is_some() { 2 } else { 1 }
 }
 
 // The places among the bounds of the first bound of each sentence whose condition none of these
@@ -154,38 +159,27 @@ fn unweighed_places(
     Ok(places)
 }
 
-// How many bounds a sentence states.
-fn bound_count(sentence: &Sentence) -> usize {
-    if sentence.second.is_some() { 2 } else { 1 }
-}
-
-// Writes the warnings about the sentences whose first bounds have these places.
-fn write_idle(
+// The warnings about the sentences whose first bounds have these places.
+fn idle_warnings(
     alloc: Global,
     input: Input<'_>,
     problem: &Problem,
     idle: &[usize],
-) -> Result<Vec<u8>, NoMemory> {
-    let mut notes = Vec::new(alloc);
+) -> Result<Vec<Warning>, NoMemory> {
+    let mut warnings = Vec::new(alloc);
     let lines = sentence_lines(alloc, input.bytes)?;
     let bounds = problem.bound_list();
     let mut place = 0usize;
     for (index, sentence) in problem.sentences().as_slice().iter().enumerate() {
         if let Some(bound) = bounds.get(place) {
             if idle.contains(&place) {
-                write_idle_condition(
-                    alloc,
-                    &mut notes,
-                    input.name,
-                    lines.get(index),
-                    problem,
-                    bound,
-                )?;
+                let line = lines.get(index).copied();
+                warnings.push(idle_warning(alloc, line, problem, bound)?)?;
             }
         }
         place = place.saturating_add(bound_count(sentence));
     }
-    Ok(notes)
+    Ok(warnings)
 }
 
 /// The warnings about sentences whose condition no distribution gives weight, where the verdict is
@@ -197,7 +191,7 @@ pub(crate) fn idle_noted<W: Company>(
     trials: &Trials<'_>,
     answer: &Answer,
     timed: &mut InTime<'_, Engine, W>,
-) -> Result<Vec<u8>, NoMemory>
+) -> Result<Vec<Warning>, NoMemory>
     requires settings { AreSettings settings }
 {
     let Verdict::Consistent(model) = &answer.verdict else {
@@ -205,5 +199,5 @@ pub(crate) fn idle_noted<W: Company>(
     };
     let places = unweighed_places(alloc, trials.problem(), model, answer)?;
     let idle = idle_among(alloc, settings, trials, places.as_slice(), timed)?;
-    write_idle(alloc, input, trials.problem(), idle.as_slice())
+    idle_warnings(alloc, input, trials.problem(), idle.as_slice())
 }

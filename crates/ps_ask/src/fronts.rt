@@ -13,7 +13,7 @@ ghost use Rattle.ps_ask.specs.Replies.{Adds, ArePieces, Stops, IsCut, IsPiece, I
 use crate::company::{Company, ROUNDS};
 use crate::conditions::idle_noted;
 use crate::judged::{judged_part, judged_verdict};
-use crate::notes::Input;
+use crate::notes::{Input, MISSING, warnings_noted};
 use crate::pieces::{part_piece, verdict_piece};
 use crate::reply::ReplyError;
 use crate::rounds::{Rounds, settle_query};
@@ -227,8 +227,8 @@ fn show_answer<O: Sink, W: Company>(
     }
 }
 
-// Warns of conditions that no distribution gives weight, where warnings are wanted. One for which
-// memory is lacking is left out.
+// Warns of conditions that no distribution gives weight, where warnings are wanted. Where memory for
+// them is lacking that is noted.
 fn warn_of_conditions<W: Company>(
     alloc: Global,
     settings: Settings,
@@ -239,13 +239,18 @@ fn warn_of_conditions<W: Company>(
 )
     requires settings { AreSettings settings }
 {
-    if !settings.warns {
+    if !settings.warns.condition {
         return;
     }
     let noted = idle_noted(alloc, settings, input, trials, answer, timed);
     timed.watch.clear();
-    if let Ok(text) = noted {
-        timed.watch.note(&text);
+    let text = match noted {
+        Ok(found) => warnings_noted(alloc, input, &found),
+        Err(NoMemory) => Err(NoMemory),
+    };
+    match text {
+        Ok(text) => timed.watch.note(&text),
+        Err(NoMemory) => timed.watch.note(MISSING),
     }
 }
 

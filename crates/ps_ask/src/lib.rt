@@ -27,6 +27,7 @@ pub use company::Company;
 pub use laws::bounds_have_decimals;
 pub use ps_claims::ClaimKind;
 pub use ps_guess::{Progress, Watch, Work};
+pub use ps_hints::{KINDS, Wanted, WarningKind};
 pub use settings::{Settings, Style};
 pub use sinks::Sinks;
 pub use sought::Sought;

@@ -2,6 +2,7 @@
 ghost use Rattle.std.specs.Prelude.{◌<◌, ◌≡◌, ◌≤◌, IfOk};
 ghost use Rattle.ps_problem.specs.Problems.{HasNodes};
 ghost use Rattle.ps_frac.specs.declared.limits.TheConstants.{MOST_DIGITS};
+ghost use Rattle.ps_spoken.specs.Exact.{query_exact};
 ghost use Rattle.ps_spoken.specs.Quiet.{query_values, verdict_value};
 ghost use Rattle.ps_spoken.specs.Spoken.{part_text, verdict_text};
 ghost use Rattle.ps_ask.specs.Shown.{AreSettings};
@@ -11,7 +12,9 @@ use crate::settings::{Settings, Style};
 use ps_answer::{QueryPart, Verdict};
 use ps_io::NoMemory;
 use ps_problem::{Problem, Query};
-use ps_spoken::{write_part, write_query_values, write_verdict, write_verdict_value};
+use ps_spoken::{
+    write_part, write_query_exact, write_query_values, write_verdict, write_verdict_value,
+};
 use std::alloc::Global;
 
 // A verdict in words.
@@ -38,7 +41,7 @@ pub fn verdict_piece(alloc: Global, style: Style, verdict: &Verdict) -> Result<V
 {
     match style {
         Style::Words => verdict_words(alloc, verdict),
-        Style::Values => verdict_word(alloc, verdict),
+        Style::Values | Style::Exact => verdict_word(alloc, verdict),
         Style::Json | Style::Report => Ok(Vec::new(alloc)),
     }
 }
@@ -72,6 +75,15 @@ fn part_values(alloc: Global, digits: u32, part: &QueryPart) -> Result<Vec<u8>, 
     Ok(text)
 }
 
+// The exact values of a part.
+fn part_exact(alloc: Global, part: &QueryPart) -> Result<Vec<u8>, NoMemory>
+    ensures { IfOk result (λ v. v.items ≡ query_exact part.now.answer) }
+{
+    let mut text = Vec::new(alloc);
+    write_query_exact(&mut text, &part.answer)?;
+    Ok(text)
+}
+
 /// The piece of a query's part.
 pub fn part_piece(
     alloc: Global,
@@ -87,6 +99,7 @@ pub fn part_piece(
     match settings.style {
         Style::Words => part_words(alloc, settings.digits, problem, query, part),
         Style::Values => part_values(alloc, settings.digits, part),
+        Style::Exact => part_exact(alloc, part),
         Style::Json | Style::Report => Ok(Vec::new(alloc)),
     }
 }

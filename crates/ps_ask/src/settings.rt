@@ -1,5 +1,6 @@
 //! What is shown of an answer, and within which limits it is looked for.
 use ps_guess::Limits;
+use ps_hints::Wanted;
 
 /// How an answer is shown.
 #[derive(Clone, Copy, Debug, PartialEq, Eq)]
@@ -8,6 +9,8 @@ pub enum Style {
     Words,
     /// The verdict in a word, and the values of each query in a line.
     Values,
+    /// The same with exact values, as fractions.
+    Exact,
     /// As an object of JSON, in a line.
     Json,
     /// By its report.
@@ -25,8 +28,8 @@ pub struct Settings {
     pub style: Style,
     /// Whether its report is written too, apart from what is shown.
     pub reports: bool,
-    /// Whether warnings are noted.
-    pub warns: bool,
+    /// Which warnings are noted.
+    pub warns: Wanted,
     /// Whether time is limited: then no further step is begun once the watch is over.
     pub is_timed: bool,
 }

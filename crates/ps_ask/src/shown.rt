@@ -11,14 +11,14 @@ ghost use Rattle.ps_ask.specs.Replies.{IsShownFor};
 use crate::answered::{open_of, status_of};
 use crate::clash::clash_in;
 use crate::company::Company;
-use crate::notes::Input;
+use crate::notes::{Input, problem_warned};
 use crate::reply::Reply;
 use crate::settings::{Settings, Style};
 use ps_answer::Answer;
 use ps_hints::sentence_lines;
 use ps_io::NoMemory;
 use ps_problem::Problem;
-use ps_spoken::{Clash, Told, write_clash, write_object};
+use ps_spoken::{Clash, Told, Warned, write_clash, write_object};
 use std::alloc::Global;
 
 // Which sentences clash, in words, where some do.
@@ -61,11 +61,13 @@ fn told_beside<'a>(
     lines: &'a [u32],
     answer: &Answer,
     clash: &'a Option<Clash>,
+    warnings: &'a [Warned],
 ) -> Told<'a>
     ensures digits { result.digits ≡ settings.digits }
     ensures file { result.file.now ≡ name.now }
     ensures clash { result.clash.now ≡ clash.now }
     ensures lines { result.lines.now ≡ lines.now }
+    ensures warnings { result.warnings.now ≡ warnings.now }
     ensures unfinished { result.unfinished ≡ pos (open_in answer.now) }
     ensures status { result.status ≡ status_number (status_after settings.is_timed answer.now) }
 {
@@ -74,6 +76,7 @@ fn told_beside<'a>(
         file: name.as_bytes(),
         clash,
         lines,
+        warnings,
         unfinished: open_of(answer) as i128,
         status: status_of(settings.is_timed, answer).number(),
     }
@@ -117,13 +120,14 @@ fn in_object<W: Company>(
 {
     let clash = clash_in(alloc, problem, settings, &answer, watch)?;
     let lines = sentence_lines(alloc, input.bytes)?;
-    let told = told_beside(settings, input.name, &lines, &answer, &clash);
+    let warnings = problem_warned(alloc, settings, input, problem)?;
+    let told = told_beside(settings, input.name, &lines, &answer, &clash, &warnings);
     let text = object_text(alloc, problem, &answer, &told)?;
     Ok(Reply::Text { answer, text })
 }
 
 /// The reply that shows the end of an answer.
-#[tactic(auto, using(crate::proofs::ShownLaws::values_shown, crate::proofs::ShownLaws::report_shown))]
+#[tactic(auto, using(crate::proofs::ShownLaws::values_shown, crate::proofs::ShownLaws::exact_shown, crate::proofs::ShownLaws::report_shown))]
 pub fn show_last<W: Company>(
     alloc: Global,
     settings: Settings,
@@ -138,7 +142,7 @@ pub fn show_last<W: Company>(
 {
     match settings.style {
         Style::Words => in_words(alloc, settings, input, problem, answer, watch),
-        Style::Values => Ok(Reply::Text {
+        Style::Values | Style::Exact => Ok(Reply::Text {
             answer,
             text: Vec::new(alloc),
         }),

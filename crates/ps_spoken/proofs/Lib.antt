@@ -3,5 +3,5 @@ pub mod Paired
 pub mod Said
 pub mod Sides
 pub mod Values
+pub mod ExactLines
 pub mod Listed
-pub mod Escaped

@@ -2,6 +2,7 @@
 pub mod Numbers
 pub mod Spoken
 pub mod Quiet
+pub mod Exact
 pub mod Clashes
 -- Meaning: answers as an object of JSON
 pub mod Strings
@@ -10,4 +11,5 @@ pub mod Bounds
 pub mod Queries
 pub mod JsonClashes
 pub mod Counts
+pub mod Warned
 pub mod Objects

@@ -13,14 +13,17 @@ use Rattle.ps_spoken.specs.JsonClashes.{clash_member}
 use Rattle.ps_spoken.specs.Counts.{counts_object}
 use Rattle.ps_spoken.specs.Queries.{queries_text}
 use Rattle.ps_spoken.specs.Strings.{string_text}
+use Rattle.ps_spoken.specs.Warned.{warned_member}
+use Rattle.ps_spoken.specs.declared.warned.Warned.{Warned}
 
 -- what is told beside an answer: how many digits decimals have, the file's name, which sentences clash, the lines of
--- sentences, how much is open, and the status
+-- sentences, warnings about the problem, how much is open, and the status
 pub record Beside : Type 0 where
   pub digits : ℕ
   pub file : List ℕ
   pub clash : Option Clash
   pub lines : List ℕ
+  pub warnings : List Warned
   pub unfinished : ℤ
   pub status : ℕ
 
@@ -31,6 +34,7 @@ facts t = record {
   file = t.file.now;
   clash = t.clash.now;
   lines = t.lines.now;
+  warnings = t.warnings.now;
   unfinished = t.unfinished;
   status = t.status;
 }
@@ -45,12 +49,16 @@ verdict_members (Consistent m) = codes ",\"verdict\":\"consistent\",\"why\":null
 verdict_members (Inconsistent d) = codes ",\"verdict\":\"inconsistent\",\"why\":null"
 verdict_members (Open c) = open_members c
 
+-- the status, and the end of the object
+unfoldable pub status_member : ℕ → List ℕ
+status_member status = codes ",\"status\":" ++ (signed_decimal (pos status) ++ codes "}\n")
+
 -- the members behind the queries
 unfoldable pub end_text : Parts → Beside → List ℕ
 end_text p t =
     codes "],\"clash\":" ++ (clash_member p t.lines t.clash
     ++ (codes ",\"counts\":" ++ (counts_object p t.unfinished
-    ++ (codes ",\"status\":" ++ (signed_decimal (pos t.status) ++ codes "}\n")))))
+    ++ (warned_member t.warnings ++ status_member t.status))))
 
 -- the object of an answer to a problem, on one line
 unfoldable pub object : Parts → Answer → Beside → List ℕ

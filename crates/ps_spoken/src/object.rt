@@ -3,7 +3,7 @@ ghost use Rattle.std.specs.Prelude.{◌<◌, ◌≤◌};
 ghost use Rattle.ps_spoken.specs.Numbers.{Says};
 ghost use Rattle.ps_frac.specs.declared.limits.TheConstants.{MOST_DIGITS};
 ghost use Rattle.ps_spoken.specs.Objects.{end_text, facts, object, open_members};
-ghost use Rattle.ps_spoken.specs.Objects.{verdict_members};
+ghost use Rattle.ps_spoken.specs.Objects.{status_member, verdict_members};
 
 use crate::cause::write_cause;
 use crate::clash::Clash;
@@ -12,6 +12,7 @@ use crate::json_clash::write_clash;
 use crate::numbers::{append, number};
 use crate::queries::write_queries;
 use crate::strings::write_string;
+use crate::warned::{Warned, write_warnings};
 use ps_answer::{Answer, Cause, Verdict};
 use ps_io::NoMemory;
 use ps_problem::Problem;
@@ -28,6 +29,8 @@ pub struct Told<'a> {
     pub clash: &'a Option<Clash>,
     /// The lines on which the sentences begin.
     pub lines: &'a [u32],
+    /// Warnings about the problem.
+    pub warnings: &'a [Warned],
     /// How much is open.
     pub unfinished: i128,
     /// The number of the status.
@@ -54,6 +57,16 @@ fn write_verdict(out: &mut Vec<u8>, verdict: &Verdict) -> Result<(), NoMemory>
     }
 }
 
+// Writes the status, and the end of the object.
+#[tactic(auto, unfolding(crate::specs::Objects::status_member))]
+fn write_status(out: &mut Vec<u8>, status: u8) -> Result<(), NoMemory>
+    ensures { Says result out.old.items out.new.items (status_member status) }
+{
+    append(out, b",\"status\":")?;
+    number(out, i128::from(status))?;
+    append(out, b"}\n")
+}
+
 // Writes the members behind the queries.
 #[tactic(auto, unfolding(crate::specs::Objects::end_text))]
 fn write_end(
@@ -69,14 +82,13 @@ fn write_end(
     write_clash(alloc, out, problem, told.lines, told.clash)?;
     append(out, b",\"counts\":")?;
     write_counts(out, problem, told.unfinished)?;
-    append(out, b",\"status\":")?;
-    number(out, i128::from(told.status))?;
-    append(out, b"}\n")
+    write_warnings(out, told.warnings)?;
+    write_status(out, told.status)
 }
 
 /// Writes the object of an answer to a problem behind what was written, on one line: the verdict,
 /// each query by its own text with its bounds, exact and as decimals rounded outward, which
-/// sentences clash, counts, and the status.
+/// sentences clash, counts, warnings, and the status.
 #[tactic(auto, unfolding(crate::specs::Objects::object))]
 pub fn write_object(
     alloc: Global,

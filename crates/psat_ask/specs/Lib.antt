@@ -1,5 +1,6 @@
 -- Meaning: what words spell and set, what is asked for, and why nothing is
 pub mod Numbers
+pub mod Kinds
 pub mod Options
 pub mod Requests
 pub mod Refusals

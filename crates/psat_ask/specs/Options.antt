@@ -10,6 +10,7 @@ use Rattle.psat_ask.specs.declared.options.Valued.{Valued}
 use Rattle.psat_ask.specs.declared.options.Valued.TheVariants.{Digits, Pivots, Conflicts, Report, TimeLimit}
 use Rattle.psat_ask.specs.declared.request.Asked.{Asked}
 use Rattle.psat_ask.specs.Numbers.{Spells, SpellsNone}
+use Rattle.psat_ask.specs.Kinds.{all_kinds}
 
 -- the settings without options: 10,000 pivots, 20,000 conflicts, six digits, words, no report, warnings, no limit of time
 abbrev pub usual_settings : Settings
@@ -18,7 +19,7 @@ usual_settings = record {
   digits = 6;
   style = Words;
   reports = false;
-  warns = true;
+  warns = all_kinds;
   is_timed = false;
 }
 

@@ -2,6 +2,7 @@
 ghost use Rattle.ps_ask.specs.Shown.{AreSettings};
 
 use crate::company::Beside;
+use crate::greatest::greatest_number;
 use crate::inlet::Inlet;
 use crate::refused::WRONG_WORDS;
 use crate::report_file::{Failure, ReportFile};
@@ -10,7 +11,7 @@ use crate::same_file::{STDIN, are_same_file, keeps_bytes};
 use crate::telling::{tell, tell_fault, tell_why};
 use crate::texts::{AWAITED, OWN_REPORT};
 use ps_ask::{Settings, Sinks, Status, Style, ask};
-use ps_io::{MemSink, Outlet, Sink, Source, StdSink, StdSource, write_all};
+use ps_io::{MemSink, NoMemory, Outlet, Sink, Source, StdSink, StdSource, write_all};
 use ps_names::shown_name;
 use std::fs::File;
 use std::io::{IsTerminal, Read, Stdout};
@@ -264,6 +265,22 @@ fn answer_under_heading(rt: &HostRuntime, asked: &Asked, file: &str) -> Status
     answer_file(rt, asked, file)
 }
 
+// The statuses of the answers to the problems of files, up to one that couldn't be written, or none
+// where memory for them is lacking.
+fn statuses_of(rt: &HostRuntime, asked: &Asked) -> Result<Vec<Status>, NoMemory>
+    requires { AreSettings asked.now.settings }
+{
+    let mut statuses = Vec::with_capacity(rt.alloc(), asked.files.len())?;
+    for file in &asked.files {
+        let status = answer_under_heading(rt, asked, file.as_str());
+        statuses.push(status)?;
+        if status == Status::WriteFault {
+            break;
+        }
+    }
+    Ok(statuses)
+}
+
 /// Answers each problem, and without files that of standard input: the greatest status. Where
 /// standard output fails nothing more is answered. Where the report would take the place of the
 /// problem nothing is read.
@@ -277,13 +294,11 @@ pub fn answer_all(rt: &HostRuntime, asked: &Asked) -> u8
     if asked.files.is_empty() {
         return answer_file(rt, asked, "-").number();
     }
-    let mut greatest = 0_u8;
-    for file in &asked.files {
-        let status = answer_under_heading(rt, asked, file.as_str());
-        greatest = greatest.max(status.number());
-        if status == Status::WriteFault {
-            return greatest;
+    match statuses_of(rt, asked) {
+        Ok(statuses) => greatest_number(&statuses),
+        Err(NoMemory) => {
+            tell_fault(rt, NO_MEMORY);
+            Status::NoMemory.number()
         }
     }
-    greatest
 }

@@ -3,7 +3,9 @@
 
 mod answering;
 mod company;
+mod greatest;
 mod inlet;
+mod kinds;
 mod meant;
 mod number;
 mod options;

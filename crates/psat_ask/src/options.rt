@@ -9,7 +9,7 @@ ghost use Rattle.psat_ask.specs.declared.options.TheConstants.{MOST_SECONDS};
 use crate::number::number_within;
 use crate::texts::{NO_REPORT, WRONG_CONFLICTS, WRONG_DIGITS, WRONG_PIVOTS, WRONG_TIME};
 use ps_answer::MOST_PIVOTS;
-use ps_ask::{Settings, Style};
+use ps_ask::{Settings, Style, Wanted};
 use ps_frac::MOST_DIGITS;
 use ps_guess::Limits;
 use ps_log::MOST_CONFLICTS;
@@ -72,7 +72,14 @@ pub fn default_settings() -> Settings
         digits: 6,
         style: Style::Words,
         reports: false,
-        warns: true,
+        warns: Wanted {
+            or: true,
+            interval: true,
+            twice: true,
+            name: true,
+            unstated: true,
+            condition: true,
+        },
         is_timed: false,
     }
 }

@@ -25,6 +25,9 @@ pub enum Refused {
     /// They have one that isn't known, and is close to one that is.
     #[error("the option {0} is unknown; is {1} meant?")]
     Misspelt(String, &'static str),
+    /// They have a kind of warnings that isn't known, as names are shown, and close to one that is.
+    #[error("the kind of warnings {0} is unknown; is {1} meant?")]
+    MisspeltKind(String, &'static str),
     /// The system doesn't hand them out, since one of them isn't UTF-8.
     #[error("an argument isn't UTF-8")]
     NotText,
@@ -55,7 +58,8 @@ impl Refused {
         ensures { result ≡ refused_number self.now }
     {
         match self {
-            Refused::Wrong(_) | Refused::Unknown(_) | Refused::Misspelt(..) => WRONG_WORDS,
+            Refused::Wrong(_) | Refused::Unknown(_) => WRONG_WORDS,
+            Refused::Misspelt(..) | Refused::MisspeltKind(..) => WRONG_WORDS,
             Refused::NotText | Refused::NoWords => NO_WORDS,
             Refused::NoMemory => Status::NoMemory.number(),
         }

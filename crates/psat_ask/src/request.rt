@@ -1,9 +1,12 @@
 //! What the words behind the program's name ask for.
-ghost use Rattle.std.specs.Prelude.{IfOk, IfSome, OnOk};
+ghost use Rattle.std.specs.Prelude.{◌≡◌, IfOk, IsOk, OnOk};
 ghost use Rattle.ps_ask.specs.Shown.{AreSettings};
+ghost use Rattle.psat_ask.specs.declared.request.Next.TheVariants as next;
 ghost use Rattle.psat_ask.specs.Options.{TakesStyle};
-ghost use Rattle.psat_ask.specs.Requests.{HasSettings};
+ghost use Rattle.psat_ask.specs.Requests.{HasSettings, IsNoValue, IsOf, IsSetBy, LeavesKinds};
+ghost use Rattle.psat_ask.specs.Requests.{Sets, SetsFlag, SetsReport, SetsTime, TakesJoined, TookOr};
 
+use crate::kinds::{no_kinds, without_kinds};
 use crate::meant::unknown;
 use crate::options::{Valued, default_settings, option_named, seconds_of, with_style, with_value};
 use crate::refused::Refused;
@@ -53,14 +56,22 @@ impl Asked {
     }
 }
 
+/// What the next word is.
+#[derive(Clone, Copy, Debug, PartialEq, Eq)]
+enum Next {
+    /// An option or a file.
+    Word,
+    /// The value of an option.
+    Value(Valued),
+    /// A file, as all behind it.
+    File,
+}
+
 /// How far words were read.
 #[derive(Drop)]
 struct Reading {
     asked: Asked,
-    // The option whose value is the next word.
-    pending: Option<Valued>,
-    // Whether all words are files from here on.
-    is_plain: bool,
+    next: Next,
 }
 
 impl Reading {
@@ -69,6 +80,7 @@ impl Reading {
         requires { AreSettings self.old.asked.settings }
         ensures set { OnOk result (TakesStyle style self.old.asked self.new.asked) }
         ensures lawful { AreSettings self.new.asked.settings }
+        ensures next { self.new.next ≡ self.old.next }
     {
         match with_style(self.asked.settings, style) {
             Some(settings) => {
@@ -82,7 +94,10 @@ impl Reading {
     // Sets where the report goes.
     fn report(&mut self, alloc: Global, value: &str) -> Result<(), Refused>
         requires { AreSettings self.old.asked.settings }
-        ensures { AreSettings self.new.asked.settings }
+        ensures set { OnOk result
+            (SetsReport value.now self.old.asked.settings self.new.asked.settings) }
+        ensures lawful { AreSettings self.new.asked.settings }
+        ensures next { self.new.next ≡ self.old.next }
     {
         if value.is_empty() {
             return Err(Refused::Wrong(NO_REPORT));
@@ -101,7 +116,10 @@ impl Reading {
     // Sets a limit of time.
     fn time_limit(&mut self, value: &str) -> Result<(), Refused>
         requires { AreSettings self.old.asked.settings }
-        ensures { AreSettings self.new.asked.settings }
+        ensures set { OnOk result
+            (SetsTime value.now self.old.asked.settings self.new.asked.settings) }
+        ensures lawful { AreSettings self.new.asked.settings }
+        ensures next { self.new.next ≡ self.old.next }
     {
         let Some(seconds) = seconds_of(value) else {
             return Err(Refused::Wrong(WRONG_TIME));
@@ -111,17 +129,14 @@ impl Reading {
         Ok(())
     }
 
-    // Sets the value of an option.
-    fn value(&mut self, alloc: Global, option: Valued, value: &str) -> Result<(), Refused>
+    // Sets the limit or the digits that an option names.
+    fn number(&mut self, option: Valued, value: &str) -> Result<(), Refused>
         requires { AreSettings self.old.asked.settings }
-        ensures { AreSettings self.new.asked.settings }
+        ensures set { OnOk result
+            (Sets option value.now self.old.asked.settings self.new.asked.settings) }
+        ensures lawful { AreSettings self.new.asked.settings }
+        ensures next { self.new.next ≡ self.old.next }
     {
-        if option == Valued::Report {
-            return self.report(alloc, value);
-        }
-        if option == Valued::TimeLimit {
-            return self.time_limit(value);
-        }
         match with_value(self.asked.settings, option, value) {
             Some(settings) => {
                 self.asked.settings = settings;
@@ -131,70 +146,161 @@ impl Reading {
         }
     }
 
-    // Reads an option without a value.
-    fn flag(&mut self, alloc: Global, word: &str) -> Result<Option<Request>, Refused>
+    // Sets the value of an option.
+    fn value(&mut self, alloc: Global, option: Valued, value: &str) -> Result<(), Refused>
         requires { AreSettings self.old.asked.settings }
-        ensures settings { AreSettings self.new.asked.settings }
-        ensures request { IfOk result (λ o. IfSome o HasSettings) }
+        ensures set { OnOk result
+            (Sets option value.now self.old.asked.settings self.new.asked.settings) }
+        ensures lawful { AreSettings self.new.asked.settings }
+        ensures next { self.new.next ≡ self.old.next }
     {
+        match option {
+            Valued::Report => self.report(alloc, value),
+            Valued::TimeLimit => self.time_limit(value),
+            Valued::Digits | Valued::Pivots | Valued::Conflicts => self.number(option, value),
+        }
+    }
+
+    // Leaves out kinds of warnings.
+    fn no_warnings(&mut self, alloc: Global, kinds: &str) -> Result<(), Refused>
+        requires { AreSettings self.old.asked.settings }
+        ensures set { OnOk result
+            (LeavesKinds kinds.now self.old.asked.settings self.new.asked.settings) }
+        ensures lawful { AreSettings self.new.asked.settings }
+        ensures next { self.new.next ≡ self.old.next }
+    {
+        self.asked.settings.warns = without_kinds(alloc, self.asked.settings.warns, kinds)?;
+        Ok(())
+    }
+
+    // Reads an option with its value behind `=`.
+    fn option_pair(
+        &mut self,
+        alloc: Global,
+        word: &str,
+        name: &str,
+        value: &str,
+    ) -> Result<(), Refused>
+        requires { AreSettings self.old.asked.settings }
+        ensures set { OnOk result
+            (TakesJoined name.now value.now self.old.asked self.new.asked) }
+        ensures lawful { AreSettings self.new.asked.settings }
+        ensures next { self.new.next ≡ self.old.next }
+    {
+        if let Some(option) = option_named(name) {
+            return self.value(alloc, option, value);
+        }
+        if name == "--no-warnings" {
+            return self.no_warnings(alloc, value);
+        }
+        if name == "--quiet" && value == "exact" {
+            return self.style(Style::Exact);
+        }
+        Err(unknown(alloc, word))
+    }
+
+    // Reads an option without a value.
+    fn flag(&mut self, alloc: Global, word: &str) -> Result<(), Refused>
+        requires { AreSettings self.old.asked.settings }
+        ensures set { OnOk result
+            (SetsFlag word.now self.old.asked.settings self.new.asked.settings) }
+        ensures lawful { AreSettings self.new.asked.settings }
+        ensures next { self.new.next ≡ self.old.next }
+    {
+        match word {
+            "--quiet" => self.style(Style::Values),
+            "--json" => self.style(Style::Json),
+            "--no-warnings" => {
+                self.asked.settings.warns = no_kinds();
+                Ok(())
+            }
+            "--no-progress" => {
+                self.asked.tells_progress = false;
+                Ok(())
+            }
+            _ => Err(unknown(alloc, word)),
+        }
+    }
+
+    // Reads an option without a value, or what stands in the place of one.
+    #[tactic(auto, using(crate::proofs::RequestLaws::took_option, crate::proofs::RequestLaws::took_end, crate::proofs::RequestLaws::took_flag))]
+    fn sole(&mut self, alloc: Global, word: &str) -> Result<Option<Request>, Refused>
+        requires settings { AreSettings self.old.asked.settings }
+        requires next { self.old.next ≡ next.Word }
+        ensures settings { AreSettings self.new.asked.settings }
+        ensures took { TookOr result word.now self.old self.new }
+    {
+        if let Some(option) = option_named(word) {
+            self.next = Next::Value(option);
+            return Ok(None);
+        }
         match word {
             "--help" | "-h" => return Ok(Some(Request::Help)),
             "--version" | "-V" => return Ok(Some(Request::Version)),
-            "--quiet" => self.style(Style::Values)?,
-            "--json" => self.style(Style::Json)?,
-            "--no-warnings" => self.asked.settings.warns = false,
-            "--" => self.is_plain = true,
-            "--no-progress" => self.asked.tells_progress = false,
-            _ => return Err(unknown(alloc, word)),
+            "--" => self.next = Next::File,
+            _ => self.flag(alloc, word)?,
         }
         Ok(None)
     }
 
     // Reads an option.
+    #[tactic(auto, using(crate::proofs::RequestLaws::took_joined))]
     fn option(&mut self, alloc: Global, word: &str) -> Result<Option<Request>, Refused>
-        requires { AreSettings self.old.asked.settings }
+        requires settings { AreSettings self.old.asked.settings }
+        requires next { self.old.next ≡ next.Word }
         ensures settings { AreSettings self.new.asked.settings }
-        ensures request { IfOk result (λ o. IfSome o HasSettings) }
+        ensures took { TookOr result word.now self.old self.new }
     {
-        if let Some((name, value)) = word.split_once('=') {
-            if let Some(option) = option_named(name) {
-                self.value(alloc, option, value)?;
-                return Ok(None);
-            }
-        }
-        match option_named(word) {
-            Some(option) => {
-                self.pending = Some(option);
+        match word.split_once('=') {
+            Some((name, value)) => {
+                self.option_pair(alloc, word, name, value)?;
                 Ok(None)
             }
-            None => self.flag(alloc, word),
+            None => self.sole(alloc, word),
         }
     }
 
+    // Takes a word as a file.
+    fn file(&mut self, alloc: Global, word: &str) -> Result<(), Refused>
+        requires { AreSettings self.old.asked.settings }
+        ensures kept { self.new.asked.settings ≡ self.old.asked.settings }
+        ensures next { self.new.next ≡ self.old.next }
+    {
+        self.asked.files.push(String::from_str(alloc, word)?)?;
+        Ok(())
+    }
+
     // Reads a word: a request that takes the place of all others, if it is one.
+    #[tactic(auto, using(crate::proofs::RequestLaws::took_file, crate::proofs::RequestLaws::took_value, crate::proofs::RequestLaws::took_later))]
     fn word(&mut self, alloc: Global, word: &str) -> Result<Option<Request>, Refused>
         requires { AreSettings self.old.asked.settings }
         ensures settings { AreSettings self.new.asked.settings }
-        ensures request { IfOk result (λ o. IfSome o HasSettings) }
+        ensures took { TookOr result word.now self.old self.new }
     {
-        if let Some(option) = self.pending {
-            self.pending = None;
-            self.value(alloc, option, word)?;
-            return Ok(None);
+        match self.next {
+            Next::Word => {
+                if word != "-" && word.starts_with('-') {
+                    return self.option(alloc, word);
+                }
+                self.file(alloc, word)?;
+            }
+            Next::Value(option) => {
+                self.value(alloc, option, word)?;
+                self.next = Next::Word;
+            }
+            Next::File => self.file(alloc, word)?,
         }
-        if !self.is_plain && word != "-" && word.starts_with('-') {
-            return self.option(alloc, word);
-        }
-        self.asked.files.push(String::from_str(alloc, word)?)?;
         Ok(None)
     }
 
     // What is asked for where no word is left.
     fn end(self) -> Result<Request, Refused>
         requires { AreSettings self.asked.settings }
-        ensures { IfOk result HasSettings }
+        ensures settings { IfOk result HasSettings }
+        ensures asked { IfOk result (IsOf self.asked.settings) }
+        ensures ended { IsOk result → IsNoValue self.next }
     {
-        if let Some(option) = self.pending {
+        if let Next::Value(option) = self.next {
             return Err(Refused::Wrong(option.fault()));
         }
         if let Some(fault) = self.asked.report_fault() {
@@ -205,8 +311,10 @@ impl Reading {
 }
 
 /// What the words behind the program's name ask for.
+#[tactic(auto, using(crate::proofs::RequestLaws::leads_first, crate::proofs::RequestLaws::leads_next, crate::proofs::RequestLaws::leads_last))]
 pub fn request_of(alloc: Global, words: &[String]) -> Result<Request, Refused>
-    ensures { IfOk result HasSettings }
+    ensures lawful { IfOk result HasSettings }
+    ensures set { IfOk result (IsSetBy words.now) }
 {
     let mut reading = Reading {
         asked: Asked {
@@ -216,8 +324,7 @@ pub fn request_of(alloc: Global, words: &[String]) -> Result<Request, Refused>
             tells_progress: true,
             files: Vec::new(alloc),
         },
-        pending: None,
-        is_plain: false,
+        next: Next::Word,
     };
     for word in words {
         if let Some(request) = reading.word(alloc, word.as_str())? {

@@ -9,7 +9,8 @@ use crate::refused::Refused;
 use crate::request::{Asked, Request, request_of};
 use ps_answer::Answer;
 use ps_ask::{
-    ClaimKind, Company, Progress, Settings, Sinks, Sought, Status, Style, Watch, Work, ask,
+    ClaimKind, Company, Progress, Settings, Sinks, Sought, Status, Style, Wanted, WarningKind,
+    Watch, Work, ask,
 };
 use ps_io::{MemSink, MemSource, NoMemory};
 use ps_read::read_whole;
@@ -60,7 +61,7 @@ struct Row {
     files: &'static [&'static str],
 }
 
-const ASKED: [Row; 5] = [
+const ASKED: [Row; 6] = [
     Row {
         words: &[],
         pivots: 10_000,
@@ -92,6 +93,19 @@ const ASKED: [Row; 5] = [
         files: &["a", "b"],
     },
     Row {
+        words: &[
+            "--quiet=exact",
+            "--no-warnings=or,interval,twice,name,unstated,condition",
+        ],
+        pivots: 10_000,
+        conflicts: 20_000,
+        digits: 6,
+        style: Style::Exact,
+        warns: false,
+        report: None,
+        files: &[],
+    },
+    Row {
         words: &["--report", "-", "--pivots", "5"],
         pivots: 5,
         conflicts: 20_000,
@@ -120,7 +134,25 @@ fn are_settings(settings: Settings, row: &Row) -> bool {
         && settings.digits == row.digits
         && settings.style == row.style
         && settings.reports == row.report.is_some()
-        && settings.warns == row.warns
+        && settings.warns == Wanted::all(row.warns)
+}
+
+// Whether just two kinds of warnings are left out.
+fn is_without_two(asked: Option<Asked>) -> bool {
+    let due = Wanted::all(true)
+        .without(WarningKind::Or)
+        .without(WarningKind::Name);
+    match asked {
+        Some(asked) => asked.settings.warns == due,
+        None => false,
+    }
+}
+
+#[test]
+fn kinds_of_warnings_are_left_out(rt: HostRuntime) -> Result<(), Fail> {
+    let alloc = rt.alloc();
+    assert!(rt; is_without_two(asked(alloc, &["--no-warnings=or,name", "-"])));
+    Ok(())
 }
 
 // Whether a report goes where a row says.
@@ -183,7 +215,9 @@ fn progress_is_left_out(rt: HostRuntime) {
 }
 
 // Words that ask for nothing, and what is said of them.
-const FAULTS: [(&[&'static str], &str); 19] = [
+const KINDS: &str = "--no-warnings takes kinds: or, interval, twice, name, unstated, condition";
+
+const FAULTS: [(&[&'static str], &str); 24] = [
     (&["--digits", "19"], "--digits takes a number from 1 to 18"),
     (&["--digits=0"], "--digits takes a number from 1 to 18"),
     (&["--digits=+5"], "--digits takes a number from 1 to 18"),
@@ -226,6 +260,20 @@ const FAULTS: [(&[&'static str], &str); 19] = [
         "the option --quite is unknown; is --quiet meant?",
     ),
     (&["--colour", "a"], "the option --colour is unknown"),
+    (
+        &["--quiet=exakt", "a"],
+        "the option --quiet=exakt is unknown; is --quiet meant?",
+    ),
+    (
+        &["--quiet=exact", "--quiet"],
+        "--quiet, --json and --report - don't go together",
+    ),
+    (&["--no-warnings=or,", "a"], KINDS),
+    (
+        &["--no-warnings=or,twise"],
+        "the kind of warnings twise is unknown; is twice meant?",
+    ),
+    (&["--no-warnings=or,or,or,or,or,or,or"], KINDS),
     (&["--\u{202e}x=1", "a"], "the option --?x=1 is unknown"),
 ];
 

@@ -15,7 +15,7 @@ Each FILE holds a problem. Without one, and for -, standard input is read. A pro
 
 Options:
   --digits N      digits of decimals behind the point, 1 to 18 (6)
-  --quiet         the verdict and the values alone
+  --quiet         the verdict and the values alone; --quiet=exact as fractions
   --json          one JSON object for each problem, on one line
   --report FILE   write the report that psat check accepts to FILE as well, whole or
                   not at all
@@ -23,7 +23,8 @@ Options:
   --pivots N      the most pivots of a run, 0 to 1000000 (10000)
   --conflicts N   the most conflicts of a search, 0 to 1099511627776 (20000)
   --time-limit N  begin no further step after N seconds for a problem, 1 to 86400
-  --no-warnings   no warnings
+  --no-warnings   no warnings; --no-warnings=KIND,.. none of these kinds:
+                  or, interval, twice, name, unstated, condition
   --no-progress   no line on a terminal that tells how far the answer is
   --help, -h      this text
   --version, -V   the version
@@ -62,6 +63,10 @@ pub const WRONG_CONFLICTS: &str = "--conflicts takes a number from 0 to 10995116
 
 /// A limit of time that can't be.
 pub const WRONG_TIME: &str = "--time-limit takes a number of seconds from 1 to 86400";
+
+/// A kind of warnings that there isn't.
+pub const WRONG_KINDS: &str =
+    "--no-warnings takes kinds: or, interval, twice, name, unstated, condition";
 
 /// A report without a file.
 pub const NO_REPORT: &str = "--report takes a file, or - for standard output";

@@ -30,6 +30,13 @@ impossible
 0.300 0.300
 ";
 
+const EXACT: &str = "consistent
+27/100 1
+27/100 3/10
+impossible
+3/10 3/10
+";
+
 const OBJECT: &str = concat!(
     "{\"file\":\"f\",\"verdict\":\"consistent\",\"why\":null,\"queries\":[",
     "{\"query\":\"P(wet)\",\"status\":\"bounds\",\"why\":null,",
@@ -45,6 +52,8 @@ const OBJECT: &str = concat!(
     "\"upper\":{\"exact\":\"3/10\",\"decimal\":\"0.300\",\"why\":null}}],",
     "\"clash\":null,",
     "\"counts\":{\"atoms\":3,\"sentences\":4,\"bounds\":4,\"queries\":4,\"open\":0},",
+    "\"warnings\":[{\"line\":4,\"kind\":\"twice\",",
+    "\"text\":\"P(rain): the same sentence stands on line 2\"}],",
     "\"status\":0}\n",
 );
 
@@ -68,6 +77,7 @@ const CLASH_OBJECT: &str = concat!(
     "{\"number\":1,\"line\":1,\"text\":\"P(a) = 1;\",\"without\":\"met\"},",
     "{\"number\":3,\"line\":4,\"text\":\"P(!a) >= 1/2;\",\"without\":\"met\"}]},",
     "\"counts\":{\"atoms\":2,\"sentences\":3,\"bounds\":3,\"queries\":1,\"open\":0},",
+    "\"warnings\":[],",
     "\"status\":1}\n",
 );
 
@@ -78,6 +88,19 @@ const NOTE: &str = "f:1:13: found `b`, expected `&`, `|`, `->`, `<->`, `given` o
 ";
 
 const UNREADABLE: &[u8] = b"psat 1; P(a b) = 1; end;";
+
+// Two sentences that can't be read, with one between them that can.
+const TWICE_UNREADABLE: &[u8] = b"psat 1; P(a b) = 1; P(a) = 1;\nP(a) = 30%; end;";
+
+const NOTES: &str = "f:1:13: found `b`, expected `&`, `|`, `->`, `<->`, `given` or `)`
+  psat 1; P(a b) = 1; P(a) = 1;
+              ^
+  hint: write &, |, -> or <-> between two formulas, and a name without blanks
+f:2:8: found `30`, expected a number from 0 to 1
+  P(a) = 30%; end;
+         ^
+  hint: write 0.3 or 30/100 for 30%
+";
 
 // Of the conditions one has no weight, and one has in no distribution but some.
 const IDLE: &[u8] = b"psat 1; P(a) = 0; P(b) <= 1/2;
@@ -96,7 +119,7 @@ pub struct Row {
     pub status: Status,
 }
 
-pub const ROWS: [Row; 9] = [
+pub const ROWS: [Row; 12] = [
     Row {
         text: PROBLEM,
         style: Style::Words,
@@ -108,6 +131,13 @@ pub const ROWS: [Row; 9] = [
         text: PROBLEM,
         style: Style::Values,
         shown: VALUES,
+        noted: WARNING,
+        status: Status::Done,
+    },
+    Row {
+        text: PROBLEM,
+        style: Style::Exact,
+        shown: EXACT,
         noted: WARNING,
         status: Status::Done,
     },
@@ -140,10 +170,24 @@ pub const ROWS: [Row; 9] = [
         status: Status::Inconsistent,
     },
     Row {
+        text: CLASH,
+        style: Style::Exact,
+        shown: "inconsistent\n",
+        noted: "",
+        status: Status::Inconsistent,
+    },
+    Row {
         text: UNREADABLE,
         style: Style::Words,
         shown: "",
         noted: NOTE,
+        status: Status::Unreadable,
+    },
+    Row {
+        text: TWICE_UNREADABLE,
+        style: Style::Exact,
+        shown: "",
+        noted: NOTES,
         status: Status::Unreadable,
     },
     Row {
