@@ -15,3 +15,4 @@ pub mod EnoughPivots
 pub mod ManyConflicts
 pub mod Answering
 pub mod AcceptedRuns
+pub mod SolveEnds

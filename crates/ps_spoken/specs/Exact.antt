@@ -16,7 +16,8 @@ exact_value (side.Open c) = codes "?"
 
 -- the exact values of a query, in one line
 abbrev pub query_exact : QueryAnswer → List ℕ
-query_exact (query.Bounds lower lower_trace upper upper_trace) = exact_value lower ++ (codes " " ++ (exact_value upper ++ codes "\n"))
+query_exact (query.Bounds lower lower_trace upper upper_trace) =
+    exact_value lower ++ (codes " " ++ (exact_value upper ++ codes "\n"))
 query_exact (query.Impossible d) = codes "impossible\n"
 query_exact (query.Open c) = codes "? ?\n"
 

@@ -14,7 +14,8 @@ number_text n = codes "\\u" ++ hex_digit (n / 4096) ∷ hex_digit (n / 256 % 16)
 -- a byte as it stands in a string: a mark before quotes and marks, and the number of a control character
 unfoldable pub byte_text : ℕ → List ℕ
 byte_text b =
-    if b == 34 then codes "\\\"" else if b == 92 then codes "\\\\" else if nat_lt b 32 || (b == 127) then number_text b else b ∷ []
+    if b == 34 then codes "\\\"" else if b == 92 then codes "\\\\"
+    else if nat_lt b 32 || (b == 127) then number_text b else b ∷ []
 
 -- the byte at a place, and 0 where none stands
 abbrev pub byte_at : List ℕ → ℕ → ℕ
@@ -43,7 +44,9 @@ is_second bs place = if place == 0 then false else is_some (hidden_at bs (place 
 
 -- it is the third of one: only those that begin with this byte have three
 unfoldable pub is_third : List ℕ → ℕ → Bool
-is_third bs place = if nat_lt place 2 then false else if byte_at bs (place - 2) == 0xe2 then is_some (hidden_at bs (place - 2)) else false
+is_third bs place =
+    if nat_lt place 2 then false
+    else if byte_at bs (place - 2) == 0xe2 then is_some (hidden_at bs (place - 2)) else false
 
 -- what stands for a byte with which such a character begins, or none
 abbrev pub begun_text : Option ℕ → ℕ → List ℕ

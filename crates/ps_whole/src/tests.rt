@@ -1,21 +1,30 @@
 //! Small tables, worked out by hand.
-ghost use Rattle.std.specs.Prelude.{IfSome};
+ghost use Rattle.std.specs.Prelude.{◌≡◌, ◌<◌, IfSome};
 ghost use Rattle.ps_whole.specs.Sums.{IsSmallSum};
+ghost use Rattle.ps_whole.specs.Pivots.{IsNumbers, over_row};
 
 use crate::{Whole, WholeSum, row_laws};
 use ps_frac::Fraction;
 use std::test::Fail;
 
+/// The entry of the column that enters in a row.
+fn entry_over(table: &Whole, row: usize, column: &[i64]) -> Fraction
+    requires row { row < table.now.rows }
+    requires numbers { IsNumbers table.now column.now }
+    ensures value { result ≡ over_row table.now column.now row }
+{
+    // Called for its clauses: the rows are whole.
+    table.rows();
+    Fraction::new(column[row] as i128, table.under(row) as i128)
+}
+
 /// The table after a pivot, by the numbers of the column that enters, if its numbers are small
 /// enough.
-fn turned(table: &Whole, row: usize, column: &[i64]) -> Option<Whole> {
-    if row >= table.rows() || column.len() != table.rows() || column[row] == 0 {
+fn turned(table: &Whole, row: usize, column: &[i64]) -> Option<Whole>
+    requires numbers { IsNumbers table.now column.now }
+{
+    if row >= table.rows() || entry_over(table, row, column).is_zero() {
         return None;
-    }
-    for number in column {
-        if number.unsigned_abs() >= 1 << 62 {
-            return None;
-        }
     }
     // Called once: a law, no more than a read.
     table.pivots_are_narrow(row, column);

@@ -1,6 +1,7 @@
 -- Words that lead from settings to others.
-use Rattle.std.proofs.Common.{◌≡◌, ◌∙◌, ◌≢◌, ℕ, zero, suc, ◌+◌, ◌<◌, ◌≤◌, List, [], ◌∷◌, ◌++◌, length, drop, get_or, map, refl, sym, ap, subst, absurd, arith}
+use Rattle.std.proofs.Common.{◌≡◌, ◌∙◌, ◌≢◌, ℕ, zero, suc, ◌+◌, ◌<◌, ◌≤◌, List, [], ◌∷◌, ◌++◌, length, drop, get_or, map, refl, sym, ap, subst, arith}
 use Rattle.std.specs.Prelude.{codes, String, string_bytes}
+use Rattle.std.proofs.lemmas.List.{drop_all, drop_more}
 use Rattle.std.specs.declared.alloc.Global.{Global}
 use Rattle.ps_ask.specs.declared.settings.Settings.{Settings}
 use Rattle.psat_ask.specs.declared.options.Valued.{Valued}
@@ -70,16 +71,11 @@ leads_first words r n e = record {
       subst (λ (x : Settings). SetBy (map string_bytes words) x u) e (subst (λ (x : Next). Behind x r.asked.settings (map string_bytes words) u) n k);
 }
 
-drop-next : (ws : List (String Global)) (i : ℕ) (d : String Global) → i < length ws → drop i ws ≡ get_or ws i d ∷ drop (i + 1) ws
-drop-next [] i d lt = absurd (omega (arith, lt))
-drop-next (w ∷ ws) zero d lt = refl
-drop-next (w ∷ ws) (suc i) d lt = drop-next ws i d (omega (arith, lt))
-
 pub leads_next : (words : List (String Global)) (place : ℕ) (word : String Global) (old new : Reading) → place < length words → word ≡ get_or words place word
     → LeadsBehind words place old → Took (string_bytes word) old new → LeadsBehind words (place + 1) new
 leads_next words place word old new lt is h took = record {
   leads = λ u k.
-      let there : drop place words ≡ word ∷ drop (place + 1) words = drop-next words place word lt ∙ ap (λ (w : String Global). w ∷ drop (place + 1) words) (sym is) in
+      let there : drop place words ≡ word ∷ drop (place + 1) words = drop_more words place word lt ∙ ap (λ (w : String Global). w ∷ drop (place + 1) words) (sym is) in
       h.leads u (subst (λ (ws : List (String Global)). Behind old.next old.asked.settings (map string_bytes ws) u) (sym there)
       (took.leads (map string_bytes (drop (place + 1) words)) u k));
 }
@@ -89,14 +85,8 @@ ends next.Word s h = Nothing s
 ends (next.Value option) s h = absurd h
 ends next.File s h = refl
 
-drop-all : (ws : List (String Global)) (i : ℕ) → length ws ≤ i → drop i ws ≡ []
-drop-all [] zero h = refl
-drop-all [] (suc i) h = refl
-drop-all (w ∷ ws) zero h = absurd (omega (arith, h))
-drop-all (w ∷ ws) (suc i) h = drop-all ws i (omega (arith, h))
-
 pub leads_last : (words : List (String Global)) (place : ℕ) (r : Reading) → length words ≤ place → IsNoValue r.next → LeadsBehind words place r
     → SetBy (map string_bytes words) usual_settings r.asked.settings
 leads_last words place r all none h =
     h.leads r.asked.settings (subst (λ (ws : List (String Global)). Behind r.next r.asked.settings (map string_bytes ws) r.asked.settings)
-    (sym (drop-all words place all)) (ends r.next r.asked.settings none))
+    (sym (drop_all place words all)) (ends r.next r.asked.settings none))

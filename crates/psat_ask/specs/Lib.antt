@@ -4,3 +4,4 @@ pub mod Kinds
 pub mod Options
 pub mod Requests
 pub mod Refusals
+pub mod Greatest

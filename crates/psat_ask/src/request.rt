@@ -1,9 +1,9 @@
 //! What the words behind the program's name ask for.
-ghost use Rattle.std.specs.Prelude.{◌≡◌, IfOk, IsOk, OnOk};
+ghost use Rattle.std.specs.Prelude.{◌≡◌, IfOk, IsOk, OnOk, true};
 ghost use Rattle.ps_ask.specs.Shown.{AreSettings};
 ghost use Rattle.psat_ask.specs.declared.request.Next.TheVariants as next;
 ghost use Rattle.psat_ask.specs.Options.{TakesStyle};
-ghost use Rattle.psat_ask.specs.Requests.{HasSettings, IsNoValue, IsOf, IsSetBy, LeavesKinds};
+ghost use Rattle.psat_ask.specs.Requests.{HasSettings, IsFile, IsNoValue, IsOf, IsSetBy, LeavesKinds};
 ghost use Rattle.psat_ask.specs.Requests.{Sets, SetsFlag, SetsReport, SetsTime, TakesJoined, TookOr};
 
 use crate::kinds::{no_kinds, without_kinds};
@@ -270,27 +270,40 @@ impl Reading {
         Ok(())
     }
 
+    // Reads an option, or takes a word as a file.
+    #[tactic(auto, using(crate::proofs::RequestLaws::took_file))]
+    fn free(&mut self, alloc: Global, word: &str) -> Result<Option<Request>, Refused>
+        requires settings { AreSettings self.old.asked.settings }
+        requires next { self.old.next ≡ next.Word }
+        ensures settings { AreSettings self.new.asked.settings }
+        ensures took { TookOr result word.now self.old self.new }
+    {
+        if !is_file(word) {
+            return self.option(alloc, word);
+        }
+        self.file(alloc, word)?;
+        Ok(None)
+    }
+
     // Reads a word: a request that takes the place of all others, if it is one.
-    #[tactic(auto, using(crate::proofs::RequestLaws::took_file, crate::proofs::RequestLaws::took_value, crate::proofs::RequestLaws::took_later))]
+    #[tactic(auto, using(crate::proofs::RequestLaws::took_value, crate::proofs::RequestLaws::took_later))]
     fn word(&mut self, alloc: Global, word: &str) -> Result<Option<Request>, Refused>
         requires { AreSettings self.old.asked.settings }
         ensures settings { AreSettings self.new.asked.settings }
         ensures took { TookOr result word.now self.old self.new }
     {
         match self.next {
-            Next::Word => {
-                if word != "-" && word.starts_with('-') {
-                    return self.option(alloc, word);
-                }
-                self.file(alloc, word)?;
-            }
+            Next::Word => self.free(alloc, word),
             Next::Value(option) => {
                 self.value(alloc, option, word)?;
                 self.next = Next::Word;
+                Ok(None)
             }
-            Next::File => self.file(alloc, word)?,
+            Next::File => {
+                self.file(alloc, word)?;
+                Ok(None)
+            }
         }
-        Ok(None)
     }
 
     // What is asked for where no word is left.
@@ -308,6 +321,13 @@ impl Reading {
         }
         Ok(Request::Ask(self.asked))
     }
+}
+
+// Whether a word is a file: it doesn't begin with a minus sign, or is that alone.
+fn is_file(word: &str) -> bool
+    ensures { result ≡ true → IsFile word.now }
+{
+    word == "-" || !word.starts_with('-')
 }
 
 /// What the words behind the program's name ask for.
