@@ -1,4 +1,4 @@
-# Completion of the arguments of psat and psat_ask for bash. To use it: source this file, or install it by scripts/install.
+# Completion of the arguments of psat, psat_ask and the scripts for bash. To use it: source this file, or install it by scripts/install.
 
 # Offers the options that don't stand on the line yet.
 _psat_options() {
@@ -66,3 +66,9 @@ _psat_ask() {
     esac
 }
 complete -o default -F _psat_ask psat_ask
+
+_psat_table() {
+    COMPREPLY=()
+    case ${COMP_WORDS[COMP_CWORD]} in -*) _psat_options --csv --help ;; esac
+}
+complete -o default -F _psat_table psat-table

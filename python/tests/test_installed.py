@@ -10,6 +10,7 @@ from fractions import Fraction
 from pathlib import Path
 
 import psat
+from psat import tables
 
 DOCUMENT = Path(__file__).parents[2] / "docs" / "python.md"
 RAIN = "psat 1;\nP(rain) = 0.3;\nP(wet given rain) = 0.9;\nquery P(wet);\nend;\n"
@@ -81,6 +82,23 @@ class Installed(unittest.TestCase):
             (row["query"], row["upper"], row["upper_decimal"]),
             ("P(wet)", Fraction(97, 100), "0.970"),
         )
+
+    def test_table_both_ways(self) -> None:
+        problem = tables.problem_of(
+            "formula,given,relation,low,high,note\nrain,,=,0.3,,\nwet,rain,=,0.9,,\nwet,,query,,,\n"
+        )
+        out = io.StringIO()
+        tables.write_csv([psat.ask(problem)], out)
+        self.assertEqual(
+            out.getvalue().splitlines()[1],
+            "standard input,consistent,P(wet),bounds,27/100,97/100,0.270000,0.970000,",
+        )
+
+    def test_row_in_messages(self) -> None:
+        rows = "".join(f"a{number},,=,1,,\n" for number in range(101))
+        problem = tables.problem_of("formula,given,relation,low,high,note\n" + rows)
+        with self.assertRaisesRegex(psat.TextError, "^line 102, column 1: .* 100 bounds"):
+            psat.ask(problem)
 
     def test_documents(self) -> None:
         blocks = re.findall(r"(?m)(?:^    .*\n|^\n(?=    ))+", DOCUMENT.read_text(encoding="utf-8"))
