@@ -72,3 +72,9 @@ _psat_table() {
     case ${COMP_WORDS[COMP_CWORD]} in -*) _psat_options --csv --help ;; esac
 }
 complete -o default -F _psat_table psat-table
+
+_psat_page() {
+    COMPREPLY=()
+    case ${COMP_WORDS[COMP_CWORD]} in -*) _psat_options --answer --report --help ;; esac
+}
+complete -o default -F _psat_page psat-page

@@ -5,8 +5,10 @@ import os
 import re
 import shutil
 import subprocess
+import tempfile
 from collections.abc import Iterator, Sequence
 from dataclasses import dataclass, replace
+from pathlib import Path
 from typing import Union
 
 from .answers import Answer, TextWarning, answers_of
@@ -139,6 +141,17 @@ def ask(
     """
     limits = _limits(digits=digits, pivots=pivots, conflicts=conflicts, time_limit=time_limit)
     return _answer(*_call([_found("psat_ask", program), "--json", *limits], text))
+
+
+def ask_with_report(
+    text: Text, options: Sequence[str] = (), program: Program = None
+) -> tuple[Answer, bytes | None]:
+    """The answer and its report in one call. There is no report where time was over before."""
+    with tempfile.TemporaryDirectory() as folder:
+        place = Path(folder, "report")
+        words = [_found("psat_ask", program), "--json", f"--report={place}", *options]
+        output, errors = _call(words, text)
+        return _answer(output, errors), place.read_bytes() if place.exists() else None
 
 
 def report(

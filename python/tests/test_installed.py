@@ -5,12 +5,13 @@ import contextlib
 import io
 import re
 import shutil
+import tempfile
 import unittest
 from fractions import Fraction
 from pathlib import Path
 
 import psat
-from psat import tables
+from psat import pages, tables
 
 DOCUMENT = Path(__file__).parents[2] / "docs" / "python.md"
 RAIN = "psat 1;\nP(rain) = 0.3;\nP(wet given rain) = 0.9;\nquery P(wet);\nend;\n"
@@ -99,6 +100,15 @@ class Installed(unittest.TestCase):
         problem = tables.problem_of("formula,given,relation,low,high,note\n" + rows)
         with self.assertRaisesRegex(psat.TextError, "^line 102, column 1: .* 100 bounds"):
             psat.ask(problem)
+
+    def test_page(self) -> None:
+        with tempfile.TemporaryDirectory() as folder:
+            problem = Path(folder, "rain.psat")
+            problem.write_text(RAIN)
+            with contextlib.redirect_stdout(io.StringIO()) as out:
+                self.assertEqual(pages.main([str(problem)]), 0)
+        self.assertIn("between 27/100 and 97/100 (0.270000 to 0.970000)", out.getvalue())
+        self.assertIn("<code>accepted: claims 3, open 0</code>", out.getvalue())
 
     def test_documents(self) -> None:
         blocks = re.findall(r"(?m)(?:^    .*\n|^\n(?=    ))+", DOCUMENT.read_text(encoding="utf-8"))
