@@ -78,3 +78,14 @@ _psat_page() {
     case ${COMP_WORDS[COMP_CWORD]} in -*) _psat_options --answer --report --help ;; esac
 }
 complete -o default -F _psat_page psat-page
+
+_psat_solve_all() {
+    local before=${COMP_WORDS[COMP_CWORD-1]} now=${COMP_WORDS[COMP_CWORD]}
+    COMPREPLY=()
+    case $before in
+    -j | -t) ;;
+    -o) mapfile -t COMPREPLY < <(compgen -d -- "$now") ;;
+    *) case $now in -*) _psat_options -a -j -o -p -t -c --help ;; esac ;;
+    esac
+}
+complete -o default -F _psat_solve_all psat-solve-all
