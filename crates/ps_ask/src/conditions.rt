@@ -1,7 +1,7 @@
 //! Conditions of sentences that no distribution gives weight.
-ghost use Rattle.std.specs.Prelude.{◌≡◌, true, All, IfOk};
+ghost use Rattle.std.specs.Prelude.{◌≡◌, true, IfOk};
 ghost use Rattle.ps_problem.specs.Problems.{HasNodes};
-ghost use Rattle.ps_ask.specs.Conditions.{IsIdle, IsIdlePlace};
+ghost use Rattle.ps_ask.specs.Conditions.{AreIdle, AreIdleWarnings, IsIdle};
 ghost use Rattle.ps_ask.specs.Shown.{AreSettings};
 
 use crate::company::Company;
@@ -16,6 +16,24 @@ use ps_hints::{Warning, idle_warning, sentence_lines};
 use ps_io::{List, NoMemory};
 use ps_problem::{Bound, Problem, Query, Sentence};
 use std::alloc::Global;
+
+/// Where a sentence states its first bound.
+#[derive(Clone, Copy, Debug, Drop)]
+pub(crate) struct Stated {
+    /// The sentence's number, from 0.
+    pub(crate) sentence: usize,
+    /// The bound's place among those of the problem, from 0.
+    pub(crate) place: usize,
+}
+
+/// Warnings about sentences whose condition no distribution gives weight.
+#[derive(Drop)]
+pub(crate) struct IdleWarnings {
+    /// The sentences, by their first bounds.
+    pub(crate) sentences: List<Stated>,
+    /// A warning about each, in the same order.
+    pub(crate) warnings: Vec<Warning>,
+}
 
 // Marks the nodes of formulas that are true in a world of the distribution: it gives them weight.
 fn mark_by_model(
@@ -107,24 +125,24 @@ fn is_idle<W: Company>(
     Ok(false)
 }
 
-// The places among the bounds of the problem, from 0, of those among these whose condition no
-// distribution gives weight, as far as that is shown in time.
+// Those of these sentences whose condition no distribution gives weight, as far as that is shown in
+// time.
 fn idle_among<W: Company>(
     alloc: Global,
     settings: Settings,
     trials: &Trials<'_>,
-    places: &[usize],
+    sentences: &[Stated],
     timed: &mut InTime<'_, Engine, W>,
-) -> Result<List<usize>, NoMemory>
+) -> Result<List<Stated>, NoMemory>
     requires settings { AreSettings settings }
-    ensures { IfOk result (All (IsIdlePlace trials.now)) }
+    ensures { IfOk result (AreIdle trials.now) }
 {
     let bounds = trials.problem().bound_list();
     let mut idle = List::new(alloc);
-    for place in places {
-        if let Some(bound) = bounds.get(*place) {
+    for stated in sentences {
+        if let Some(bound) = bounds.get(stated.place) {
             if is_idle(alloc, settings, trials, bound, timed)? {
-                idle.push(*place)?;
+                idle.push(*stated)?;
             }
         }
     }
@@ -136,50 +154,57 @@ fn bound_count(sentence: &Sentence) -> usize {
     if sentence.second.is_some() { 2 } else { 1 }
 }
 
-// The places among the bounds of the first bound of each sentence whose condition none of these
-// distributions gives weight.
-fn unweighed_places(
+// The sentences with a condition in their first bound that none of these distributions gives weight.
+fn unweighed_sentences(
     alloc: Global,
     problem: &Problem,
     model: &Model,
     answer: &Answer,
-) -> Result<List<usize>, NoMemory> {
+) -> Result<List<Stated>, NoMemory> {
     let weighed = weighed_in(alloc, problem, model, answer)?;
     let bounds = problem.bound_list();
-    let mut places = List::new(alloc);
+    let mut found = List::new(alloc);
     let mut place = 0usize;
-    for sentence in problem.sentences().as_slice() {
+    for (number, sentence) in problem.sentences().as_slice().iter().enumerate() {
         if let Some(bound) = bounds.get(place) {
             if is_unweighed(bound, &weighed) {
-                places.push(place)?;
+                found.push(Stated {
+                    sentence: number,
+                    place,
+                })?;
             }
         }
         place = place.saturating_add(bound_count(sentence));
     }
-    Ok(places)
+    Ok(found)
 }
 
-// The warnings about the sentences whose first bounds have these places.
+// A warning about each of these sentences.
 fn idle_warnings(
     alloc: Global,
     input: Input<'_>,
-    problem: &Problem,
-    idle: &[usize],
-) -> Result<Vec<Warning>, NoMemory> {
-    let mut warnings = Vec::new(alloc);
+    trials: &Trials<'_>,
+    idle: &[Stated],
+) -> Result<IdleWarnings, NoMemory>
+    requires { AreIdle trials.now idle.now }
+    ensures { IfOk result (AreIdleWarnings trials.now) }
+{
+    let problem = trials.problem();
     let lines = sentence_lines(alloc, input.bytes)?;
     let bounds = problem.bound_list();
-    let mut place = 0usize;
-    for (index, sentence) in problem.sentences().as_slice().iter().enumerate() {
-        if let Some(bound) = bounds.get(place) {
-            if idle.contains(&place) {
-                let line = lines.get(index).copied();
-                warnings.push(idle_warning(alloc, line, problem, bound)?)?;
-            }
+    let mut sentences = List::new(alloc);
+    let mut warnings = Vec::new(alloc);
+    for stated in idle {
+        if let Some(bound) = bounds.get(stated.place) {
+            let line = lines.get(stated.sentence).copied();
+            warnings.push(idle_warning(alloc, line, problem, bound)?)?;
+            sentences.push(*stated)?;
         }
-        place = place.saturating_add(bound_count(sentence));
     }
-    Ok(warnings)
+    Ok(IdleWarnings {
+        sentences,
+        warnings,
+    })
 }
 
 /// The warnings about sentences whose condition no distribution gives weight, where the verdict is
@@ -191,13 +216,17 @@ pub(crate) fn idle_noted<W: Company>(
     trials: &Trials<'_>,
     answer: &Answer,
     timed: &mut InTime<'_, Engine, W>,
-) -> Result<Vec<Warning>, NoMemory>
+) -> Result<IdleWarnings, NoMemory>
     requires settings { AreSettings settings }
+    ensures { IfOk result (AreIdleWarnings trials.now) }
 {
     let Verdict::Consistent(model) = &answer.verdict else {
-        return Ok(Vec::new(alloc));
+        return Ok(IdleWarnings {
+            sentences: List::new(alloc),
+            warnings: Vec::new(alloc),
+        });
     };
-    let places = unweighed_places(alloc, trials.problem(), model, answer)?;
-    let idle = idle_among(alloc, settings, trials, places.as_slice(), timed)?;
-    idle_warnings(alloc, input, trials.problem(), idle.as_slice())
+    let found = unweighed_sentences(alloc, trials.problem(), model, answer)?;
+    let idle = idle_among(alloc, settings, trials, found.as_slice(), timed)?;
+    idle_warnings(alloc, input, trials, idle.as_slice())
 }
