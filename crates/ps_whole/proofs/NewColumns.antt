@@ -57,7 +57,7 @@ part_is z y d =
     mul-quotient z y d (at_least_one 1)
     ∙ quotient-same (z *ℤ y) (z *ℤ y) (times d (at_least_one 1)) d (ap (λ n. (z *ℤ y) *ℤ pos n) (sym (times_one d)))
 
-over_zero : (d : Positive) → zero_q ≡ quotient (pos 0) d
+pub over_zero : (d : Positive) → zero_q ≡ quotient (pos 0) d
 unfolding zero_q
 over_zero d = quotient-same (pos 0) (pos 0) one_positive d (omega (arith, ints))
 

@@ -22,7 +22,7 @@ fn times_entry(number: i64, entry: i64) -> i128
 }
 
 /// A sum and a product.
-fn plus(sum: i64, product: i128) -> i128
+pub(crate) fn plus(sum: i64, product: i128) -> i128
     requires sum { unsigned_abs sum < 2 ^ 62 }
     requires product { unsigned_abs product < 2 ^ 126 }
     ensures value { result ≡ sum +ℤ product }
