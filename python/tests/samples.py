@@ -1,10 +1,13 @@
 """Answers as `docs/answer-json.md` describes them, and programs that write them."""
 from __future__ import annotations
 
+import contextlib
+import io
 import json
 import os
 import tempfile
 import unittest
+from collections.abc import Callable, Sequence
 from pathlib import Path
 from typing import Any
 from unittest import mock
@@ -50,6 +53,15 @@ CONSISTENT = answer(
 )
 INCONSISTENT = answer(verdict="inconsistent", clash=clash(2, 4), status=1)
 OPEN = answer(verdict="open", why="a search stopped", status=4)
+
+
+def said(main: Callable[[Sequence[str]], int], *words: str) -> tuple[int, str, str]:
+    """What a program with these words ends with, and writes to its output and its errors."""
+    with contextlib.redirect_stdout(io.StringIO()) as out, contextlib.redirect_stderr(
+        io.StringIO()
+    ) as err:
+        status = main(words)
+    return status, out.getvalue(), err.getvalue()
 
 
 class WithPrograms(unittest.TestCase):

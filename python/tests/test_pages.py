@@ -1,7 +1,5 @@
 from __future__ import annotations
 
-import contextlib
-import io
 import json
 import unittest
 from html.parser import HTMLParser
@@ -11,7 +9,17 @@ from typing import Any
 from psat.answers import Answer
 from psat.pages import Shown, main, page, values_of
 
-from .samples import CONSISTENT, INCONSISTENT, OPEN, WithPrograms, answer, clash, query, side
+from .samples import (
+    CONSISTENT,
+    INCONSISTENT,
+    OPEN,
+    WithPrograms,
+    answer,
+    clash,
+    query,
+    said,
+    side,
+)
 
 TAGS = set(
     "html head meta title style body h1 h2 p a ul ol li code pre div span "
@@ -141,13 +149,6 @@ class Pages(unittest.TestCase):
 
 
 class Program(WithPrograms):
-    def run_main(self, *words: str) -> tuple[int, str, str]:
-        with contextlib.redirect_stdout(io.StringIO()) as out, contextlib.redirect_stderr(
-            io.StringIO()
-        ) as err:
-            status = main(words)
-        return status, out.getvalue(), err.getvalue()
-
     def file(self, name: str, text: str) -> str:
         path = Path(self.folder, name)
         path.write_text(text, encoding="utf-8")
@@ -156,7 +157,7 @@ class Program(WithPrograms):
     def test_asks(self) -> None:
         self.program("psat_ask", answer())
         problem = self.file("it's", "psat 1; end;")
-        status, out, err = self.run_main(problem, "--", "--digits", "3")
+        status, out, err = said(main, problem, "--", "--digits", "3")
         self.assertEqual((status, err), (0, ""))
         self.assertEqual(self.kept("words").split("\n")[2:], ["--digits", "3", "-", ""])
         self.assertIn("There is none: time was over", out)
@@ -165,31 +166,31 @@ class Program(WithPrograms):
         problem, other = self.file("p", "psat 1; end;"), self.file("q", "psat 1; end;")
         lines = [{**answer(), "file": problem}, {**INCONSISTENT, "file": other}]
         given = self.file("json", "".join(json.dumps(each) + "\n" for each in lines))
-        status, out, err = self.run_main("--answer", given, other)
+        status, out, err = said(main, "--answer", given, other)
         self.assertEqual((status, err), (0, ""))
         self.assertIn("inconsistent: no distribution", out)
-        status, _, err = self.run_main("--answer", given, given)
+        status, _, err = said(main, "--answer", given, given)
         self.assertEqual((status, err), (3, f"psat-page: {given} has 0 answers to {given}\n"))
 
     def test_commands_quote_names(self) -> None:
         self.program("psat_ask", answer())
         problem = self.file("it's; rm -r x", "psat 1; end;")
         given = self.file("json", json.dumps(answer()))
-        _, out, _ = self.run_main("--answer", given, "--report", problem, problem)
+        _, out, _ = said(main, "--answer", given, "--report", problem, problem)
         quoted = "'\"'\"'".join(problem.split("'"))
         commands = "".join(Read(out).texts)
         self.assertIn(f"{{ cat '{quoted}'; echo; cat '{quoted}'; }} | psat check", commands)
 
     def test_failures(self) -> None:
         problem = self.file("p", "psat 1;")
-        status, _, err = self.run_main(problem)
+        status, _, err = said(main, problem)
         self.assertEqual((status, err.split(":")[0]), (127, "psat-page"))
         self.program("psat_ask", errors="standard input:1:8: found the end\n  psat 1;\n", status=3)
-        status, _, err = self.run_main(problem)
+        status, _, err = said(main, problem)
         self.assertEqual((status, err), (3, f"{problem}: line 1, column 8: found the end\n"))
         self.program("psat_ask", errors="psat_ask: not enough memory\n", status=7)
-        self.assertEqual(self.run_main(problem)[0], 7)
-        status, _, err = self.run_main(problem + "none")
+        self.assertEqual(said(main, problem)[0], 7)
+        status, _, err = said(main, problem + "none")
         self.assertEqual(
             (status, err), (5, f"psat-page: {problem}none: No such file or directory\n")
         )
@@ -202,7 +203,7 @@ class Program(WithPrograms):
             ["--none", "p"],
         ):
             with self.subTest(words), self.assertRaises(SystemExit) as caught:
-                self.run_main(*words)
+                said(main, *words)
             self.assertEqual(caught.exception.code, 2)
 
 

@@ -1,6 +1,5 @@
 from __future__ import annotations
 
-import contextlib
 import csv
 import io
 import json
@@ -13,7 +12,7 @@ from psat.answers import Answer
 from psat.errors import ProblemError
 from psat.tables import main, problem_of, write_csv
 
-from .samples import CONSISTENT, INCONSISTENT, answer
+from .samples import CONSISTENT, INCONSISTENT, answer, said
 
 RISKS = '''\
 formula,given,relation,low,high,note
@@ -121,13 +120,6 @@ class Out(unittest.TestCase):
 
 
 class Program(unittest.TestCase):
-    def run_main(self, *words: str) -> tuple[int, str, str]:
-        with contextlib.redirect_stdout(io.StringIO()) as out, contextlib.redirect_stderr(
-            io.StringIO()
-        ) as err:
-            status = main(words)
-        return status, out.getvalue(), err.getvalue()
-
     def in_file(self, data: bytes) -> str:
         folder = tempfile.TemporaryDirectory()
         self.addCleanup(folder.cleanup)
@@ -136,26 +128,26 @@ class Program(unittest.TestCase):
         return str(path)
 
     def test_both_ways(self) -> None:
-        status, out, err = self.run_main(self.in_file(RISKS.encode()))
+        status, out, err = said(main, self.in_file(RISKS.encode()))
         self.assertEqual((status, out, err), (0, problem_of(RISKS), ""))
         given = "".join(json.dumps(each) + "\n" for each in (answer(), INCONSISTENT))
-        status, out, err = self.run_main("--csv", self.in_file(given.encode()))
+        status, out, err = said(main, "--csv", self.in_file(given.encode()))
         self.assertEqual((status, len(out.splitlines()), err), (1, 3, ""))
 
     def test_what_is_refused(self) -> None:
         name = self.in_file(b"formula,relation\na,=\n")
         shown = name.replace("\x1b", "?")
         told = f"{shown}: row 2: = takes a number in the column low, which is empty\n"
-        self.assertEqual(self.run_main(name), (3, "", told))
-        status, _, err = self.run_main(self.in_file(b"formula,relation\n\xff"))
+        self.assertEqual(said(main, name), (3, "", told))
+        status, _, err = said(main, self.in_file(b"formula,relation\n\xff"))
         self.assertEqual(
             (status, err.split(": ")[1]), (3, "line 2 isn't UTF-8; save the table as UTF-8\n")
         )
-        status, _, err = self.run_main(name + "none")
+        status, _, err = said(main, name + "none")
         self.assertEqual(
             (status, err), (5, f"psat-table: {shown}none: No such file or directory\n")
         )
-        status, _, err = self.run_main("--csv", name)
+        status, _, err = said(main, "--csv", name)
         self.assertEqual((status, err), (3, f"{shown}: line 1 is no answer of psat_ask --json\n"))
 
     def test_no_file(self) -> None:
