@@ -11,6 +11,7 @@ mod goal;
 mod local_search;
 mod neighbours;
 mod nodes;
+mod truths;
 
 pub use demand::Demand;
 pub use draw::{Draw, drawn_world};

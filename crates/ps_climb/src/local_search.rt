@@ -69,7 +69,7 @@ impl LocalSearch {
     ) -> Result<Option<World>, NoMemory>
         ensures { IfOk result (λ found. IfSome found (λ w. length w ≡ length start.now)) }
     {
-        let tolerance = self.begin(goal, start);
+        let tolerance = self.begin(goal, start)?;
         self.walk(steps, tolerance);
         self.best_world(goal, start)
     }
@@ -84,20 +84,20 @@ impl LocalSearch {
     ) -> Result<Option<World>, NoMemory>
         ensures { IfOk result (λ found. IfSome found (λ w. length w ≡ length start.now)) }
     {
-        let tolerance = self.begin(goal, start);
+        let tolerance = self.begin(goal, start)?;
         self.rise(steps, tolerance);
         self.best_world(goal, start)
     }
 
     /// Takes in a goal and a world, and answers by how much equal values may differ.
-    fn begin(&mut self, goal: Goal<'_>, start: &World) -> f64 {
+    fn begin(&mut self, goal: Goal<'_>, start: &World) -> Result<f64, NoMemory> {
         let penalty = self.nodes.weigh(goal.coefficients);
-        self.nodes.find_needed();
+        self.nodes.find_needed()?;
         self.world.fill(false);
         copy(&mut self.world, start.as_slice());
         copy(&mut self.best, &self.world);
         self.barred_until.fill(0);
-        SAME_VALUE * penalty
+        Ok(SAME_VALUE * penalty)
     }
 
     /// Goes on a way of so many steps at most.
@@ -110,9 +110,8 @@ impl LocalSearch {
             let Some(atom) = self.free_neighbour(step, here, most, tolerance) else {
                 return;
             };
-            turn(&mut self.world, atom);
+            here += self.go(atom);
             self.bar(atom, step);
-            here = self.look_around();
             if here > most + tolerance {
                 most = here;
                 copy(&mut self.best, &self.world);
@@ -128,12 +127,12 @@ impl LocalSearch {
 
     /// Goes up by so many steps at most.
     fn rise(&mut self, steps: u32, tolerance: f64) {
+        self.look_around();
         for _ in 0..steps {
-            self.look_around();
             let Some(atom) = self.higher_neighbour(tolerance) else {
                 return;
             };
-            turn(&mut self.world, atom);
+            self.go(atom);
             turn(&mut self.best, atom);
         }
     }
@@ -142,6 +141,14 @@ impl LocalSearch {
     fn look_around(&mut self) -> f64 {
         self.nodes.evaluate(Worlds::Around(&self.world));
         self.nodes.find_gains(&mut self.gains)
+    }
+
+    /// Goes to the neighbour in which an atom is turned, and answers by how much the value rose.
+    fn go(&mut self, atom: usize) -> f64 {
+        turn(&mut self.world, atom);
+        let number = u16::try_from(atom).unwrap_or(u16::MAX);
+        self.nodes
+            .turn(number, Worlds::Around(&self.world), &mut self.gains)
     }
 
     /// The atom to turn for the greatest value, of those that aren't barred or lead to more than the

@@ -1,7 +1,8 @@
 //! The nodes of a search: those of formulas, and behind them one for each conditional demand.
 
 use crate::demand::{Demand, Demanded, Part, parts};
-use crate::neighbours::{Neighbours, Worlds};
+use crate::neighbours::{Worlds, atom_bit, has_atom};
+use crate::truths::Truths;
 use ps_formula::{Formulas, Node};
 use ps_io::NoMemory;
 use std::alloc::Global;
@@ -15,7 +16,8 @@ struct Weighed {
     weight: f64,
     /// Whether its truth is looked at.
     is_needed: bool,
-    truth: Neighbours,
+    /// The atoms that it is made of, one bit each.
+    atoms: u128,
 }
 
 impl Weighed {
@@ -26,15 +28,27 @@ impl Weighed {
             demanded: Demanded::none(),
             weight: 0.0,
             is_needed: false,
-            truth: Neighbours::all(false),
+            atoms: 0,
         }
     }
+}
+
+/// A node whose truth is looked at.
+#[derive(Clone, Copy)]
+struct Needed {
+    number: u32,
+    node: Node,
+    weight: f64,
+    atoms: u128,
 }
 
 /// The nodes of a search, by number. A number that isn't there stands for a node that is false.
 #[derive(Drop)]
 pub(crate) struct Nodes {
     all: Vec<Weighed>,
+    /// Those whose truth is looked at, operands first.
+    needed: Vec<Needed>,
+    truths: Truths,
 }
 
 impl Nodes {
@@ -44,15 +58,51 @@ impl Nodes {
         formulas: &Formulas,
         demands: &[Demand],
     ) -> Result<Nodes, NoMemory> {
+        let count = formulas.nodes().len().saturating_add(demands.len());
         let mut nodes = Nodes {
             all: Vec::new(alloc),
+            needed: Vec::new(alloc),
+            truths: Truths::new(alloc, count)?,
         };
         for node in formulas.nodes() {
             nodes.all.push(Weighed::new(*node))?;
         }
         nodes.add_demands(demands)?;
         nodes.split_demands();
+        nodes.find_atoms();
         Ok(nodes)
+    }
+
+    /// Finds the atoms that each node is made of.
+    fn find_atoms(&mut self) {
+        for place in 0..self.all.len() {
+            if let Some(weighed) = self.all.get(place).copied() {
+                let atoms = self.atoms_of(weighed.node);
+                if let Some(weighed) = self.all.get_mut(place) {
+                    weighed.atoms = atoms;
+                }
+            }
+        }
+    }
+
+    /// The atoms that a node is made of, by those of its operands.
+    fn atoms_of(&self, node: Node) -> u128 {
+        match node {
+            Node::True | Node::False => 0,
+            Node::Atom(number) => atom_bit(number),
+            Node::Not(a) => self.atoms_in(a),
+            Node::And(a, b) | Node::Or(a, b) | Node::Implies(a, b) | Node::Iff(a, b) => {
+                self.atoms_in(a) | self.atoms_in(b)
+            }
+        }
+    }
+
+    /// The atoms of a node that were found.
+    fn atoms_in(&self, node: u32) -> u128 {
+        match self.all.get(node as usize) {
+            Some(weighed) => weighed.atoms,
+            None => 0,
+        }
     }
 
     /// Notes the demands.
@@ -115,7 +165,7 @@ impl Nodes {
     }
 
     /// Finds which nodes are needed: those that count, and their operands.
-    pub(crate) fn find_needed(&mut self) {
+    pub(crate) fn find_needed(&mut self) -> Result<(), NoMemory> {
         for weighed in self.all.iter_mut() {
             weighed.is_needed = weighed.weight != 0.0;
         }
@@ -126,6 +176,23 @@ impl Nodes {
                 }
             }
         }
+        self.list_needed()
+    }
+
+    /// Lists the needed nodes.
+    fn list_needed(&mut self) -> Result<(), NoMemory> {
+        self.needed.clear();
+        for (number, weighed) in (0..u32::MAX).zip(&self.all) {
+            if weighed.is_needed {
+                self.needed.push(Needed {
+                    number,
+                    node: weighed.node,
+                    weight: weighed.weight,
+                    atoms: weighed.atoms,
+                })?;
+            }
+        }
+        Ok(())
     }
 
     /// Notes that the operands of a node are needed.
@@ -149,41 +216,9 @@ impl Nodes {
 
     /// Finds the truth of the needed nodes in worlds.
     pub(crate) fn evaluate(&mut self, worlds: Worlds<'_>) {
-        for place in 0..self.all.len() {
-            if let Some(weighed) = self.all.get(place).copied() {
-                if weighed.is_needed {
-                    let truth = self.truth_of(weighed.node, worlds);
-                    self.set_truth(place, truth);
-                }
-            }
-        }
-    }
-
-    /// The truth of a node over that of its operands.
-    fn truth_of(&self, node: Node, worlds: Worlds<'_>) -> Neighbours {
-        match node {
-            Node::True => Neighbours::all(true),
-            Node::False => Neighbours::all(false),
-            Node::Atom(n) => worlds.atom(n),
-            Node::Not(a) => self.truth(a).not(),
-            Node::And(a, b) => self.truth(a).and(self.truth(b)),
-            Node::Or(a, b) => self.truth(a).or(self.truth(b)),
-            Node::Implies(a, b) => self.truth(a).not().or(self.truth(b)),
-            Node::Iff(a, b) => self.truth(a).iff(self.truth(b)),
-        }
-    }
-
-    /// The truth of a node that was found last.
-    fn truth(&self, node: u32) -> Neighbours {
-        self.all
-            .get(node as usize)
-            .map_or(Neighbours::all(false), |weighed| weighed.truth)
-    }
-
-    /// Notes the truth of a node.
-    fn set_truth(&mut self, place: usize, truth: Neighbours) {
-        if let Some(weighed) = self.all.get_mut(place) {
-            weighed.truth = truth;
+        for needed in &self.needed {
+            let truth = self.truths.truth_of(needed.node, worlds);
+            self.truths.set(needed.number, truth);
         }
     }
 
@@ -191,33 +226,51 @@ impl Nodes {
     pub(crate) fn find_gains(&self, gains: &mut [f64]) -> f64 {
         let mut value = 0.0;
         gains.fill(0.0);
-        for weighed in &self.all {
-            if weighed.weight != 0.0 {
-                if weighed.truth.here() {
-                    value += weighed.weight;
-                }
-                weighed.truth.add_gains(weighed.weight, gains);
+        for needed in &self.needed {
+            if needed.weight != 0.0 {
+                let truth = self.truths.get(needed.number);
+                value += truth.worth(needed.weight);
+                truth.add_gains(needed.weight, gains);
             }
         }
         value
     }
 
+    /// Finds the truth of the needed nodes again where an atom was turned, and what each neighbour has more
+    /// than the world. Answers by how much the value of the world rose.
+    pub(crate) fn turn(&mut self, atom: u16, worlds: Worlds<'_>, gains: &mut [f64]) -> f64 {
+        let mut rise = 0.0;
+        for needed in &self.needed {
+            if has_atom(needed.atoms, atom) {
+                let old = self.truths.get(needed.number);
+                let new = self.truths.truth_of(needed.node, worlds);
+                self.truths.set(needed.number, new);
+                if needed.weight != 0.0 && old != new {
+                    rise += new.worth(needed.weight) - old.worth(needed.weight);
+                    old.turn_gains(new, needed.weight, gains);
+                }
+            }
+        }
+        rise
+    }
+
     /// The coefficients of the nodes that are true.
     pub(crate) fn value(&self, coefficients: &[f64]) -> f64 {
         let mut value = 0.0;
-        for (weighed, coefficient) in self.all.iter().zip(coefficients) {
-            if weighed.truth.here() {
-                value += coefficient;
-            }
+        for (number, coefficient) in (0..u32::MAX).zip(coefficients) {
+            value += self.truths.get(number).worth(*coefficient);
         }
         value
     }
 
     /// Whether the world meets the demands.
     pub(crate) fn meet_demands(&self) -> bool {
-        self.all
-            .iter()
-            .all(|weighed| weighed.demanded.is_met_by(weighed.truth.here()))
+        for (number, weighed) in (0..u32::MAX).zip(&self.all) {
+            if !weighed.demanded.is_met_by(self.truths.get(number).here()) {
+                return false;
+            }
+        }
+        true
     }
 }
 
