@@ -6,7 +6,7 @@ ghost use Rattle.ps_claims.specs.Printed.{IsPrintedDual};
 ghost use Rattle.ps_valid.specs.Limits.{IsSmallModel};
 ghost use Rattle.ps_guess.specs.Trials.{FindsAgainst, IsFoundSide, IsTrialOf};
 
-use crate::limits::{is_small_dual, is_small_model};
+use crate::limits::{has_steps, is_small_dual, is_small_model};
 use crate::trial::Trial;
 use crate::trials::Trials;
 use ps_answer::{Dual, Model, SideAnswer};
@@ -41,8 +41,9 @@ fn shown_bound(
 impl<'p> Trials<'p> {
     /// Whether the guess shows the bound of the query on this side that is the dual's head over its
     /// top: a distribution that reaches it, and a dual, with a multiplier for each bound of the
-    /// problem, whose steps are sought here. Before the search, which learns at most so many
-    /// clauses, the judge of claims looks at all but the steps, and after it at all.
+    /// problem. Where the dual has steps, the judge of claims looks at all. Else they are sought here:
+    /// before the search, which learns at most so many clauses, the judge looks at all but the steps,
+    /// and after it at all.
     pub fn bound(
         &self,
         alloc: Global,
@@ -65,6 +66,12 @@ impl<'p> Trials<'p> {
         }
         let problem = self.problem();
         let value = Fraction::new(dual.head, dual.top);
+        if has_steps(&dual, self.conflicts()) {
+            return match shown_bound(alloc, problem, kind, query, value, model, dual)? {
+                None => Ok(Trial::Wrong(Reason::NotRefuted)),
+                Some(side) => Ok(Trial::Shown(side)),
+            };
+        }
         match check_bound(alloc, problem, kind, &query, &value, &model, &dual)? {
             None | Some(Reason::NotRefuted) => {}
             Some(reason) => return Ok(Trial::Wrong(reason)),

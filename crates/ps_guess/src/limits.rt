@@ -1,10 +1,14 @@
-//! Whether numbers of a guess are within the limits of claims.
-ghost use Rattle.std.specs.Prelude.{◌↔◌, All, IsTrue};
+//! Whether numbers of a guess are within the limits of claims, and its steps those of a refutation.
+ghost use Rattle.std.specs.Prelude.{◌↔◌, ◌≤◌, All, IsTrue};
+ghost use Rattle.ps_log.specs.declared.limits.TheConstants.{MOST_CONFLICTS};
+ghost use Rattle.ps_pb.specs.Limits.{IsLiteral};
+ghost use Rattle.ps_claims.specs.Printed.{AreOfLiterals, IsPrintedDual};
 ghost use Rattle.ps_claims.specs.Certificates.{IsMultiplier, IsSmallDual};
 ghost use Rattle.ps_valid.specs.Limits.{AreSmall, IsAmount, IsSmallModel};
 
 use ps_answer::{Dual, MOST_ENTRIES, Model, Weighted};
 use ps_meaning::PRINTED_LIMIT;
+use ps_pb::{Lit, Step};
 
 fn is_amount(z: i128) -> bool
     ensures { IsTrue result ↔ IsAmount z }
@@ -42,4 +46,33 @@ pub fn is_small_dual(dual: &Dual) -> bool
     ensures { IsTrue result → IsSmallDual dual.now }
 {
     is_multiplier(&dual.top) && is_multiplier(&dual.head) && are_multipliers(dual.rows.as_slice())
+}
+
+fn is_literal(lit: &Lit) -> bool
+    ensures { IsTrue result → IsLiteral lit.now }
+{
+    lit.number() != 0
+}
+
+fn are_literals(lits: &[Lit]) -> bool
+    ensures { IsTrue result → All IsLiteral lits.now }
+{
+    lits.iter().all(|lit| is_literal(lit))
+}
+
+fn are_of_literals(steps: &[Step]) -> bool
+    ensures { IsTrue result → AreOfLiterals steps.now }
+{
+    steps.iter().all(|step| are_literals(step.lits.as_slice()))
+}
+
+/// Whether a dual, whose numbers are small, has steps, and no more than a search that learns at most
+/// so many clauses.
+pub fn has_steps(dual: &Dual, conflicts: u64) -> bool
+    requires small { IsSmallDual dual.now }
+    requires few { conflicts ≤ MOST_CONFLICTS }
+    ensures { IsTrue result → IsPrintedDual dual.now }
+{
+    let steps = dual.steps.as_slice();
+    !steps.is_empty() && steps.len() as u64 <= conflicts + 1 && are_of_literals(steps)
 }

@@ -5,7 +5,7 @@ ghost use Rattle.ps_problem.specs.Problems.{HasNodes};
 ghost use Rattle.ps_claims.specs.declared.claim_kind.ClaimKind.TheVariants.{Nothing};
 ghost use Rattle.ps_guess.specs.Trials.{FindsAgainst, IsFoundDual, IsTrialOf};
 
-use crate::limits::is_small_dual;
+use crate::limits::{has_steps, is_small_dual};
 use crate::trial::Trial;
 use crate::trials::{Trials, given_in};
 use ps_answer::Dual;
@@ -16,8 +16,8 @@ use ps_valid::check_dual;
 use std::alloc::Global;
 
 impl<'p> Trials<'p> {
-    /// Whether the guess, a dual whose steps are sought here by a search that learns at most so many
-    /// clauses, shows that no distribution that meets each bound gives the query's evidence positive
+    /// Whether the guess, a dual with steps, or one whose steps are sought here by a search that learns
+    /// at most so many clauses, shows that no distribution that meets each bound gives the query's evidence positive
     /// probability; without a query, that there is no such distribution.
     pub fn nothing(
         &self,
@@ -36,6 +36,12 @@ impl<'p> Trials<'p> {
         }
         let problem = self.problem();
         let given = given_in(problem, ClaimKind::Nothing, query);
+        if has_steps(&dual, self.conflicts()) {
+            return match check_dual(alloc, problem, given, &dual)? {
+                None => Ok(Trial::Shown(dual)),
+                Some(against) => Ok(Trial::Wrong(against)),
+            };
+        }
         match check_dual(alloc, problem, given, &dual)? {
             None | Some(Reason::NotRefuted) => {}
             Some(reason) => return Ok(Trial::Wrong(reason)),
