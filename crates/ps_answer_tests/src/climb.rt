@@ -39,7 +39,7 @@ fn fits(formulas: &Formulas, node: Node) -> bool
     }
 }
 
-fn formulas_of(alloc: Global, nodes: &[Node]) -> Result<Formulas, AddError> {
+pub(crate) fn formulas_of(alloc: Global, nodes: &[Node]) -> Result<Formulas, AddError> {
     let mut formulas = Formulas::new(alloc);
     for node in nodes {
         if fits(&formulas, *node) {

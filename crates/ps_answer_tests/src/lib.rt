@@ -23,3 +23,5 @@ mod lifting;
 mod problems;
 #[cfg(test)]
 mod simplex;
+#[cfg(test)]
+mod world_search;

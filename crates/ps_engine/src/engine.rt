@@ -5,6 +5,7 @@ use crate::basis_system::BasisSystem;
 use crate::descent::Descent;
 use crate::limits::{BASIC_STARTS, MOST_MENDED, MOST_PIVOTS, MOST_REPAIRS, MOST_TOLD, SEED};
 use crate::pace::Pace;
+use crate::proof::Proof;
 use crate::tolerances::Tolerances;
 use ps_climb::{Draw, drawn_world};
 use ps_float_pricing::{Aim, FloatGoal, FloatPricer, Member, Priced, Relaxed, WorldPool};
@@ -62,6 +63,10 @@ pub struct Engine {
     pub(crate) descents: u32,
     /// The way that goes on.
     pub(crate) descent: Option<Descent>,
+    /// Proofs of guesses that were begun, one for an aim at most.
+    pub(crate) proofs: Vec<Proof>,
+    /// Aims for which a proof was given up.
+    pub(crate) unproved: Vec<Aim>,
     pub(crate) gain: FloatGoal,
     /// How far the objective is from its end, as far as is known.
     pub(crate) gap: f64,
@@ -131,6 +136,8 @@ impl Engine {
             on_face: 0,
             descents: 0,
             descent: None,
+            proofs: Vec::new(alloc),
+            unproved: Vec::new(alloc),
             gain: FloatGoal::new(alloc, relaxed.nodes())?,
             gap: 1.0,
             pace: Pace::steady(),
@@ -166,6 +173,8 @@ impl Engine {
         self.simplex = program(self.alloc, &self.relaxed)?;
         self.waiting = Vec::new(self.alloc);
         self.forced = None;
+        self.proofs = Vec::new(self.alloc);
+        self.unproved = Vec::new(self.alloc);
         self.given = None;
         self.aim = None;
         self.stage = Stage::Fresh;
@@ -295,14 +304,9 @@ impl Engine {
         self.relaxed
             .write_gain(aim, self.simplex.duals(), &mut self.gain);
         let starts = self.starts(problem)?;
-        let priced = self.pricer.price(
-            problem,
-            &self.relaxed,
-            &self.gain,
-            above,
-            &starts,
-            is_thorough,
-        )?;
+        let priced = self
+            .pricer
+            .price(problem, &self.gain, above, &starts, is_thorough)?;
         match priced {
             Priced::NoneAbove => Ok(Some(0)),
             Priced::Spent => Ok(None),

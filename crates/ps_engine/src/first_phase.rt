@@ -2,8 +2,11 @@
 
 use crate::engine::{Engine, Stage};
 use crate::limits::{LARGEST_ROUNDED, MOST_REPAIRS, MOST_ROUNDINGS, MOST_ROUNDS};
+use crate::side::Turn;
+use crate::whole::WholeModel;
 use ps_answer::Dual;
 use ps_float_pricing::{Aim, Goal, Multipliers, Priced};
+use ps_guesser::Guess;
 use ps_io::NoMemory;
 use ps_problem::Problem;
 use ps_simplex_float::Ending;
@@ -95,22 +98,61 @@ impl Engine {
 
     // The next guess of what shows that the bounds contradict one another, where they were found to. No
     // world's gain is above half of the distance, so that roundings do.
-    pub(crate) fn refutation(&mut self, stage: Stage) -> Result<Option<Dual>, NoMemory> {
+    pub(crate) fn refutation(
+        &mut self,
+        problem: &Problem,
+        stage: Stage,
+    ) -> Result<Option<Dual>, NoMemory> {
         let distance = match stage {
             Stage::Excluded => 0.0,
             Stage::Inconsistent(distance) => distance,
             Stage::Fresh | Stage::Begun | Stage::Feasible | Stage::Unknown => return Ok(None),
         };
+        for round in self.pace.first()..MOST_ROUNDS {
+            if self.pace.is_due(round) {
+                self.pause(round, distance);
+                return Ok(None);
+            }
+            match self.rounded_guess(problem, distance)? {
+                Turn::Again => {}
+                Turn::Guess(guess) => return Ok(Some(guess.dual)),
+                _ => return Ok(None),
+            }
+        }
+        Ok(None)
+    }
+
+    // Goes on with the proof of a refutation, or with the next rounding.
+    fn rounded_guess(&mut self, problem: &Problem, distance: f64) -> Result<Turn, NoMemory> {
+        if let Some(turn) = self.prove(problem, Aim::Consistent)? {
+            return Ok(turn);
+        }
         if self.roundings >= MOST_ROUNDINGS {
-            return Ok(None);
+            return Ok(Turn::GiveUp);
         }
         let mut multipliers = Multipliers::new(self.alloc, 0, 1, self.relaxed.bounds())?;
         if distance > 0.0 && !self.round_duals(distance, &mut multipliers) {
-            return Ok(None);
+            return Ok(Turn::GiveUp);
         }
         reduce(&mut multipliers, self.relaxed.bounds());
         self.roundings = self.roundings.saturating_add(1);
-        self.dual_of(Aim::Consistent, multipliers)
+        self.refuting(problem, multipliers)
+    }
+
+    // The guess of multipliers that show that the bounds contradict one another, once it is proved.
+    fn refuting(
+        &mut self,
+        problem: &Problem,
+        mut multipliers: Multipliers,
+    ) -> Result<Turn, NoMemory> {
+        let aim = Aim::Consistent;
+        let mut goal = self.relaxed.combination(self.alloc, aim, &multipliers)?;
+        if !self.relaxed.outweigh(&mut goal, &mut multipliers) {
+            return Ok(Turn::GiveUp);
+        }
+        let dual = multipliers.into_dual(self.alloc);
+        let model = WholeModel::new(self.alloc).model;
+        self.begin_proof(problem, aim, &goal, Guess { model, dual })
     }
 
     // Rounds the rows' prices, to three bits more each time.
@@ -137,19 +179,6 @@ impl Engine {
             multipliers.set(row.number, whole as i128);
         }
         true
-    }
-
-    // The dual of multipliers, with those of the certainties, where they are small.
-    pub(crate) fn dual_of(
-        &self,
-        aim: Aim,
-        mut multipliers: Multipliers,
-    ) -> Result<Option<Dual>, NoMemory> {
-        let mut goal = self.relaxed.combination(self.alloc, aim, &multipliers)?;
-        if !self.relaxed.outweigh(&mut goal, &mut multipliers) {
-            return Ok(None);
-        }
-        Ok(Some(multipliers.into_dual(self.alloc)))
     }
 }
 

@@ -159,7 +159,7 @@ impl Guesser for Engine {
         self.pace.begin();
         let stage = self.settle(problem)?;
         let Some(query) = query else {
-            return self.refutation(stage);
+            return self.refutation(problem, stage);
         };
         match query.given {
             Some(given) if stage == Stage::Feasible => self.impossible(problem, given),

@@ -15,6 +15,7 @@ mod guesses;
 mod limits;
 mod on_face;
 mod pace;
+mod proof;
 mod rounding;
 mod shrinking;
 mod side;

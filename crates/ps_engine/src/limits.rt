@@ -21,6 +21,12 @@ pub(crate) const ENOUGH_EVIDENCE: f64 = 0.01;
 /// How many roundings of a refutation are tried.
 pub(crate) const MOST_ROUNDINGS: u32 = 4;
 
+/// How many conflicts the proof of a guess meets in a round.
+pub(crate) const PROOF_CONFLICTS: u64 = 50;
+
+/// The proof of a guess is given up once it has so many clauses.
+pub(crate) const MOST_PROOF_CLAUSES: usize = 20_000;
+
 /// The largest multiplier that is rounded from a float.
 pub(crate) const LARGEST_ROUNDED: f64 = 1e26;
 

@@ -80,10 +80,11 @@ impl Engine {
             return Ok(self.force(Column::Added(place)));
         }
         match self.within(problem, aim, &goal, is_tight)? {
-            Within::Model(whole) => Ok(Turn::Guess(Guess {
-                model: whole.model,
-                dual: multipliers.into_dual(self.alloc),
-            })),
+            Within::Model(whole) => {
+                let dual = multipliers.into_dual(self.alloc);
+                let model = whole.model;
+                self.begin_proof(problem, aim, &goal, Guess { model, dual })
+            }
             Within::Against(place) => Ok(self.force(Column::Added(place))),
             Within::Unfinished => Ok(Turn::Pause),
             Within::Nothing => Ok(Turn::TooLarge),

@@ -62,6 +62,9 @@ impl Engine {
         aim: Aim,
         is_evidence: bool,
     ) -> Result<Turn, NoMemory> {
+        if let Some(turn) = self.prove(problem, aim)? {
+            return Ok(turn);
+        }
         if self.descents > 0 || self.on_face > 0 {
             return self.whole_turn(problem, aim);
         }
@@ -146,13 +149,14 @@ impl Engine {
             Values::Model(_) if !self.meets_bounds(aim, &system, &values)? => {
                 self.guess_on_face(problem, aim, &system)
             }
-            Values::Model(whole) => self.guess_from(aim, &system, whole),
+            Values::Model(whole) => self.guess_from(problem, aim, &system, whole),
         }
     }
 
     // The guess of a distribution, with multipliers.
     fn guess_from(
         &mut self,
+        problem: &Problem,
         aim: Aim,
         system: &BasisSystem,
         whole: WholeModel,
@@ -162,13 +166,15 @@ impl Engine {
         }
         if whole.is_extreme(aim) {
             let multipliers = extreme(self.alloc, aim, self.relaxed.bounds())?;
-            return self.test_guess(aim, whole, multipliers);
+            return self.test_guess(problem, aim, whole, multipliers);
         }
         let Some(prices) = system.prices(&self.pool, aim)? else {
             return Ok(Turn::TooLarge);
         };
         match multipliers_of(self.alloc, &self.relaxed, aim, system, &prices)? {
-            Prices::Multipliers(multipliers) => self.test_guess(aim, whole, multipliers),
+            Prices::Multipliers(multipliers) => {
+                self.test_guess(problem, aim, whole, multipliers)
+            }
             Prices::WrongSign(row) => Ok(self.force(Column::Slack(row))),
         }
     }
@@ -182,9 +188,10 @@ impl Engine {
         Turn::Again
     }
 
-    // The guess, if the combination is below 1 in each world of the pool.
+    // The guess, if the combination is below 1 in each world of the pool, once it is proved.
     fn test_guess(
         &mut self,
+        problem: &Problem,
         aim: Aim,
         whole: WholeModel,
         mut multipliers: Multipliers,
@@ -195,10 +202,11 @@ impl Engine {
         }
         match self.place_against(&goal) {
             Some(place) => Ok(self.force(Column::Added(place))),
-            None => Ok(Turn::Guess(Guess {
-                model: whole.model,
-                dual: multipliers.into_dual(self.alloc),
-            })),
+            None => {
+                let dual = multipliers.into_dual(self.alloc);
+                let model = whole.model;
+                self.begin_proof(problem, aim, &goal, Guess { model, dual })
+            }
         }
     }
 

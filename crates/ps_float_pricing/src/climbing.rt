@@ -19,8 +19,8 @@ pub(crate) struct Climbing {
     steps: u32,
 }
 
-// What a certainty demands of a world.
-fn demand_of(certainty: &Certainty) -> Demand {
+/// What a certainty demands of a world.
+pub(crate) fn demand_of(certainty: &Certainty) -> Demand {
     match certainty.given {
         _ if !certainty.is_true => Demand::False(certainty.both),
         Some(given) => Demand::Implies(given, certainty.both),

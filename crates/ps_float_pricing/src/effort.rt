@@ -1,6 +1,4 @@
 //! How hard a search tries.
-ghost use Rattle.std.specs.Prelude.{◌≤◌};
-ghost use Rattle.ps_log.specs.declared.limits.TheConstants.{MOST_CONFLICTS};
 
 use crate::limits::{FEW_CONFLICTS, LIGHT_CONFLICTS, MANY_CONFLICTS};
 
@@ -17,20 +15,12 @@ pub(crate) enum Effort {
 
 impl Effort {
     /// How many conflicts a search makes, where so many are left in all.
-    pub(crate) fn conflicts(self, left: u64) -> u64
-        ensures { result ≤ MOST_CONFLICTS }
-    {
-        let wanted = self.most_conflicts();
-        if left < wanted { left } else { wanted }
-    }
-
-    fn most_conflicts(self) -> u64
-        ensures { result ≤ MOST_CONFLICTS }
-    {
-        match self {
+    pub(crate) fn conflicts(self, left: u64) -> u64 {
+        let wanted = match self {
             Effort::Light => LIGHT_CONFLICTS,
             Effort::Short => FEW_CONFLICTS,
             Effort::Long => MANY_CONFLICTS,
-        }
+        };
+        left.min(wanted)
     }
 }

@@ -8,12 +8,13 @@ use crate::goal::Goal;
 use crate::limits::{ALL_CONFLICTS, FACE_SEARCHES, FEW_ATOMS, MOST_SEARCHES};
 use crate::pool::Member;
 use crate::relaxed::Relaxed;
-use crate::scaled::Goals;
-use crate::search::{Ended, seek};
-use ps_clause::{ClauseForm, clauses_of};
+use crate::scaled::Scaled;
+use crate::search::search_over;
+use crate::wishes::wishes_of;
 use ps_formula::World;
 use ps_io::NoMemory;
 use ps_problem::Problem;
+use ps_world_search::{Ended, WorldSearch};
 use std::alloc::Global;
 
 /// What a pricing finds.
@@ -31,7 +32,7 @@ pub enum Priced {
 #[derive(Drop)]
 pub struct FloatPricer {
     alloc: Global,
-    form: ClauseForm,
+    search: WorldSearch,
     climbing: Climbing,
     /// How many conflicts the searches may still make.
     left: u64,
@@ -73,7 +74,7 @@ impl FloatPricer {
     ) -> Result<FloatPricer, NoMemory> {
         Ok(FloatPricer {
             alloc,
-            form: clauses_of(alloc, problem.formulas())?,
+            search: search_over(alloc, problem, relaxed)?,
             climbing: Climbing::new(alloc, problem, relaxed)?,
             left: ALL_CONFLICTS,
             is_light: true,
@@ -83,6 +84,7 @@ impl FloatPricer {
 
     /// Goes over to the certainties of another split of the problem.
     pub fn keep(&mut self, problem: &Problem, relaxed: &Relaxed) -> Result<(), NoMemory> {
+        self.search = search_over(self.alloc, problem, relaxed)?;
         self.climbing = Climbing::new(self.alloc, problem, relaxed)?;
         self.left = ALL_CONFLICTS;
         self.is_light = true;
@@ -105,25 +107,30 @@ impl FloatPricer {
 
     /// A world in which the goal is at least 1.
     pub fn first(&mut self, problem: &Problem, goal: &Goal) -> Result<Priced, NoMemory> {
-        match self.seek(problem, goal, 1, Effort::Long)? {
+        self.search.set_goal(goal.weights(), goal.base(), &[])?;
+        match self.seek(1, Effort::Long)? {
             Ended::Found(world) => self.one(Member::new(self.alloc, problem, world)?),
             Ended::Nothing => Ok(Priced::NoneAbove),
             Ended::Spent => Ok(Priced::Spent),
         }
     }
 
-    // A search.
-    fn seek(
-        &mut self,
-        problem: &Problem,
-        goal: &Goal,
-        least: i128,
-        effort: Effort,
-    ) -> Result<Ended, NoMemory> {
-        let conflicts = effort.conflicts(self.left);
-        let sought = seek(self.alloc, problem, &self.form, goal, least, conflicts)?;
-        self.left = self.left.saturating_sub(sought.learned);
-        Ok(sought.ended)
+    // From now on searches are for a gain. Answers it in whole numbers.
+    fn set_gain(&mut self, problem: &Problem, gain: &FloatGoal) -> Result<Scaled, NoMemory> {
+        let scaled = Scaled::new(self.alloc, gain)?;
+        let wishes = wishes_of(self.alloc, problem.formulas().nodes(), gain.weights())?;
+        self.search
+            .set_goal(scaled.goal.weights(), scaled.goal.base(), &wishes)?;
+        Ok(scaled)
+    }
+
+    // Looks for a world in which the goal is at least so much.
+    fn seek(&mut self, least: i128, effort: Effort) -> Result<Ended, NoMemory> {
+        let before = self.search.conflicts();
+        let ended = self.search.seek(least, effort.conflicts(self.left))?;
+        let met = self.search.conflicts().saturating_sub(before);
+        self.left = self.left.saturating_sub(met);
+        Ok(ended)
     }
 
     // One world.
@@ -146,14 +153,13 @@ impl FloatPricer {
     pub fn price(
         &mut self,
         problem: &Problem,
-        relaxed: &Relaxed,
         gain: &FloatGoal,
         above: f64,
         starts: &[World],
         is_thorough: bool,
     ) -> Result<Priced, NoMemory> {
         if self.is_light {
-            match self.search_lightly(problem, relaxed, gain, above)? {
+            match self.search_lightly(problem, gain, above)? {
                 Priced::Spent => {}
                 priced => return Ok(priced),
             }
@@ -168,7 +174,7 @@ impl FloatPricer {
             self.climbing.best(problem, gain, above, &mut found)?;
             return Ok(what_was(found));
         }
-        self.search(problem, relaxed, gain, above, is_thorough)
+        self.search_hard(problem, gain, above, is_thorough)
     }
 
     // The same by light searches: each is for a gain that is a quarter more than the one before. Where one
@@ -176,16 +182,14 @@ impl FloatPricer {
     fn search_lightly(
         &mut self,
         problem: &Problem,
-        relaxed: &Relaxed,
         gain: &FloatGoal,
         above: f64,
     ) -> Result<Priced, NoMemory> {
-        let goals = Goals::new(self.alloc, problem.formulas().nodes(), relaxed, gain)?;
+        let scaled = self.set_gain(problem, gain)?;
         let mut found = Vec::new(self.alloc);
-        let mut least = goals.least(above);
+        let mut least = scaled.least(above);
         for _ in 0..MOST_SEARCHES {
-            let degree = goals.degree(Effort::Light, least);
-            match self.seek(problem, goals.goal(Effort::Light), degree, Effort::Light)? {
+            match self.seek(least, Effort::Light)? {
                 Ended::Nothing => break,
                 Ended::Spent => {
                     self.is_light = false;
@@ -195,7 +199,7 @@ impl FloatPricer {
                     if let Some(member) = Member::new(self.alloc, problem, world)? {
                         found.push(member)?;
                     }
-                    least = quarter_more(greatest(&goals.plain, &found, least));
+                    least = quarter_more(greatest(&scaled.goal, &found, least));
                 }
             }
         }
@@ -206,28 +210,26 @@ impl FloatPricer {
     // The same by the clause form. The first search makes few conflicts; where it is spent and nothing
     // was found, another makes many if it is to be thorough. From each world that is found a local search
     // goes on, and the next search is for a gain that is a quarter more.
-    fn search(
+    fn search_hard(
         &mut self,
         problem: &Problem,
-        relaxed: &Relaxed,
         gain: &FloatGoal,
         above: f64,
         is_thorough: bool,
     ) -> Result<Priced, NoMemory> {
-        let goals = Goals::new(self.alloc, problem.formulas().nodes(), relaxed, gain)?;
+        let scaled = self.set_gain(problem, gain)?;
         let mut found = Vec::new(self.alloc);
-        let mut least = goals.least(above);
+        let mut least = scaled.least(above);
         let mut effort = Effort::Short;
         for _ in 0..MOST_SEARCHES {
-            let degree = goals.degree(effort, least);
-            match self.seek(problem, goals.goal(effort), degree, effort)? {
+            match self.seek(least, effort)? {
                 Ended::Nothing => return Ok(what_was(found)),
                 Ended::Spent if !found.is_empty() => return Ok(Priced::Found(found)),
                 Ended::Spent if effort == Effort::Long || !is_thorough => return Ok(Priced::Spent),
                 Ended::Spent => effort = Effort::Long,
                 Ended::Found(world) => {
                     self.keep_world(problem, gain, above, world, &mut found)?;
-                    least = quarter_more(greatest(&goals.plain, &found, least));
+                    least = quarter_more(greatest(&scaled.goal, &found, least));
                     effort = Effort::Short;
                 }
             }
@@ -264,6 +266,8 @@ impl FloatPricer {
         let Some(sought) = FaceGoal::new(self.alloc, relaxed, face, gain)? else {
             return Ok(None);
         };
+        self.search
+            .set_goal(sought.goal.weights(), sought.goal.base(), gain.weights())?;
         let mut best = None;
         let mut least = sought.least;
         for _ in 0..FACE_SEARCHES {
@@ -272,7 +276,7 @@ impl FloatPricer {
             } else {
                 Effort::Short
             };
-            let Ended::Found(world) = self.seek(problem, &sought.goal, least, effort)? else {
+            let Ended::Found(world) = self.seek(least, effort)? else {
                 return Ok(best);
             };
             let Some(member) = Member::new(self.alloc, problem, world)? else {
