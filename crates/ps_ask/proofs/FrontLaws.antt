@@ -1,5 +1,5 @@
 -- An answer as it goes.
-use Rattle.std.proofs.Common.{◌≡◌, ◌∙◌, ℕ, ◌+◌, ◌<◌, ◌≤◌, Bool, true, false, List, [], ◌∷◌, ◌++◌, length, take, get_or, refl, sym, ap, subst, append_assoc, append-nil, inl, inr, arith}
+use Rattle.std.proofs.Common.{◌≡◌, ◌∙◌, ℕ, ◌+◌, ◌<◌, ◌≤◌, Bool, true, false, List, [], ◌∷◌, ◌++◌, length, take, get_or, refl, sym, ap, subst, append_assoc, append-nil, inl, inr, Option, arith}
 use Rattle.std.specs.Prelude.{◌⊎◌, ◌&&◌, ◌||◌}
 use Rattle.std.specs.List.{AllZip}
 use Rattle.std.proofs.lemmas.List.{take_all}
@@ -19,7 +19,9 @@ use Rattle.ps_generation.specs.Phases.{AreLimits}
 use Rattle.ps_query.proofs.Loops.{zip_next}
 use Rattle.ps_guess.specs.Solutions.{IsAnsweredPart, IsAnsweredVerdict}
 use Rattle.ps_guess.proofs.Settled.{solution, short}
-use Rattle.ps_spoken.specs.Spoken.{spoken, part_text, paired_text}
+use Rattle.ps_ask.specs.Reached.{AreReachedAsTold, IsReachedAsTold}
+use Rattle.ps_spoken.specs.declared.reached.Reached.{Reached}
+use Rattle.ps_spoken.specs.Spoken.{spoken, part_text, parts_text}
 use Rattle.ps_spoken.specs.Quiet.{values_of}
 use Rattle.ps_spoken.proofs.Values.{values-push}
 use Rattle.ps_spoken.proofs.ExactLines.{exact-push}
@@ -27,88 +29,106 @@ use Rattle.ps_ask.specs.declared.settings.Settings.{Settings}
 use Rattle.ps_ask.specs.declared.settings.Style.{Style}
 use Rattle.ps_ask.specs.declared.settings.Style.TheVariants.{Words, Values, Exact, Json, Report}
 use Rattle.ps_ask.specs.Late.{is_late, is_late_answer, is_late_in, is_late_verdict}
-use Rattle.ps_ask.specs.Fronts.{AreShownParts, IsBegunText, IsLatePart, IsLateVerdict, IsShownPart, IsShownVerdict, IsWhole, begun_text, part_piece, parts_pieces, verdict_piece}
+use Rattle.ps_ask.specs.Fronts.{AreReachedAfter, AreReachedTo, AreShownParts, IsBegunText, IsLatePart, IsLateVerdict, IsShownPart, IsShownVerdict, IsWhole, begun_text, part_piece, parts_pieces, verdict_piece}
 use Rattle.ps_ask.specs.Replies.{AreShortInTime, ArePiecesFor, IsPiece, IsVerdictPiece}
 
 -- ---- pieces
-begun_is : (style : Style) (digits : ℕ) (p : Parts) (a : Answer) → begun_text style digits p a ≡ verdict_piece style a.verdict ++ parts_pieces style digits p a.parts
+begun_is : (style : Style) (digits : ℕ) (p : Parts) (a : Answer) (rs : List (Option Reached)) → begun_text style digits p a rs ≡ verdict_piece style a.verdict ++ parts_pieces style digits p a.parts rs
 unfolding spoken values_of
-begun_is Words digits p a = refl
-begun_is Values digits p a = refl
-begun_is Exact digits p a = refl
-begun_is Json digits p a = refl
-begun_is Report digits p a = refl
+begun_is Words digits p a rs = refl
+begun_is Values digits p a rs = refl
+begun_is Exact digits p a rs = refl
+begun_is Json digits p a rs = refl
+begun_is Report digits p a rs = refl
 
-module _ {A B : Type 0} (text : A → B → List ℕ) where
-  paired-none : (xs : List A) → paired_text text xs [] ≡ []
-  paired-none [] = refl
-  paired-none (x ∷ xs) = refl
+module _ (digits : ℕ) (p : Parts) where
+  texts-none : (qs : List Query) (rs : List (Option Reached)) → parts_text digits p qs [] rs ≡ []
+  texts-none [] rs = refl
+  texts-none (q ∷ qs) rs = refl
 
-  paired-next : (xs : List A) (ys : List B) (y : B) (d : A) → length ys < length xs → paired_text text xs (ys ++ y ∷ []) ≡ paired_text text xs ys ++ text (get_or xs (length ys) d) y
-  paired-next [] ys y d lt = absurd (omega (arith, lt))
-  paired-next (x ∷ xs) [] y d lt = ap (λ t. text x y ++ t) (paired-none xs) ∙ append-nil (text x y)
-  paired-next (x ∷ xs) (z ∷ zs) y d lt =
-      ap (λ t. text x z ++ t) (paired-next xs zs y d (omega (arith, lt))) ∙ sym (append_assoc (text x z) (paired_text text xs zs) (text (get_or xs (length zs) d) y))
+  texts-next : (qs : List Query) (parts : List QueryPart) (part : QueryPart) (rs : List (Option Reached)) (r : Option Reached) (d : Query) → length parts < length qs → length rs ≡ length parts
+      → parts_text digits p qs (parts ++ part ∷ []) (rs ++ r ∷ []) ≡ parts_text digits p qs parts rs ++ part_text digits p (get_or qs (length parts) d) part r
+  texts-next [] parts part rs r d lt same = absurd (omega (arith, lt))
+  texts-next (q ∷ qs) [] part [] r d lt same = ap (λ t. part_text digits p q part r ++ t) (texts-none qs []) ∙ append-nil (part_text digits p q part r)
+  texts-next (q ∷ qs) [] part (x ∷ rs) r d lt same = absurd (omega (arith, same))
+  texts-next (q ∷ qs) (y ∷ parts) part [] r d lt same = absurd (omega (arith, same))
+  texts-next (q ∷ qs) (y ∷ parts) part (x ∷ rs) r d lt same =
+      ap (λ t. part_text digits p q y x ++ t) (texts-next qs parts part rs r d (omega (arith, lt)) (omega (arith, same)))
+      ∙ sym (append_assoc (part_text digits p q y x) (parts_text digits p qs parts rs) (part_text digits p (get_or qs (length parts) d) part r))
 
-pub pieces_none : (style : Style) (digits : ℕ) (p : Parts) → parts_pieces style digits p [] ≡ []
-pieces_none Words digits p = paired-none (part_text digits p) p.queries
-pieces_none Values digits p = refl
-pieces_none Exact digits p = refl
-pieces_none Json digits p = refl
-pieces_none Report digits p = refl
+pub pieces_none : (style : Style) (digits : ℕ) (p : Parts) (rs : List (Option Reached)) → parts_pieces style digits p [] rs ≡ []
+pieces_none Words digits p rs = texts-none digits p p.queries rs
+pieces_none Values digits p rs = refl
+pieces_none Exact digits p rs = refl
+pieces_none Json digits p rs = refl
+pieces_none Report digits p rs = refl
 
-pieces_next : (style : Style) (digits : ℕ) (p : Parts) (parts : List QueryPart) (part : QueryPart) (d : Query) → length parts < length p.queries
-    → parts_pieces style digits p (parts ++ part ∷ []) ≡ parts_pieces style digits p parts ++ part_piece style digits p (get_or p.queries (length parts) d) part
-pieces_next Words digits p parts part d lt = paired-next (part_text digits p) p.queries parts part d lt
-pieces_next Values digits p parts part d lt = values-push digits parts part
-pieces_next Exact digits p parts part d lt = exact-push parts part
-pieces_next Json digits p parts part d lt = refl
-pieces_next Report digits p parts part d lt = refl
+pieces_next : (style : Style) (digits : ℕ) (p : Parts) (parts : List QueryPart) (part : QueryPart) (rs : List (Option Reached)) (r : Option Reached) (d : Query)
+    → length parts < length p.queries → length rs ≡ length parts
+    → parts_pieces style digits p (parts ++ part ∷ []) (rs ++ r ∷ []) ≡ parts_pieces style digits p parts rs ++ part_piece style digits p (get_or p.queries (length parts) d) part r
+pieces_next Words digits p parts part rs r d lt same = texts-next digits p p.queries parts part rs r d lt same
+pieces_next Values digits p parts part rs r d lt same = values-push digits parts part
+pieces_next Exact digits p parts part rs r d lt same = exact-push parts part
+pieces_next Json digits p parts part rs r d lt same = refl
+pieces_next Report digits p parts part rs r d lt same = refl
 
 -- ---- parts, as far as they go
 length-next : {A : Type 0} (xs : List A) (x : A) → length (xs ++ x ∷ []) ≡ length xs + 1
 length-next [] x = refl
 length-next (y ∷ xs) x = let h = length-next xs x in omega (arith, h)
 
--- the parts of the first queries
-pub record ArePartsTo (s : Settings) (p : Parts) (i : ℕ) (parts : List QueryPart) : Type 0 where
+-- the parts of the first queries, with what is reached of each
+pub record ArePartsTo (s : Settings) (p : Parts) (i : ℕ) (parts : List QueryPart) (rs : List (Option Reached)) : Type 0 where
   pub count : length parts ≡ i
   pub shown : AreShownParts s p (take i p.queries) parts
+  pub each : length rs ≡ i
+  pub told : AreReachedTo p p.queries i rs
 
-pub pieces_begun : (s : Settings) (p : Parts) (i : ℕ) (parts : List QueryPart) → ArePartsTo s p i parts → ArePiecesFor s p p.queries (parts_pieces s.style s.digits p parts)
-pieces_begun s p i parts h = record {
+pub pieces_begun : (s : Settings) (p : Parts) (i : ℕ) (parts : List QueryPart) (rs : List (Option Reached)) → ArePartsTo s p i parts rs → ArePiecesFor s p p.queries (parts_pieces s.style s.digits p parts rs)
+pieces_begun s p i parts rs h = record {
   parts = parts;
+  reached = rs;
   shown = subst (λ k. AreShownParts s p (take k p.queries) parts) (sym h.count) h.shown;
+  told = subst (λ k. AreReachedTo p p.queries k rs) (sym h.count) h.told;
   is = refl;
 }
 
-module _ (s : Settings) (p : Parts) (i : ℕ) (parts : List QueryPart) (q d : Query) (are : ArePartsTo s p i parts) (is : q ≡ get_or p.queries i d) (lt : i < length p.queries) where
-  pub parts_next : (part : QueryPart) → IsShownPart s p q part → ArePartsTo s p (i + 1) (parts ++ part ∷ [])
-  parts_next part h = record {
+module _ (s : Settings) (p : Parts) (i : ℕ) (parts : List QueryPart) (rs : List (Option Reached)) (q d : Query) (are : ArePartsTo s p i parts rs) (is : q ≡ get_or p.queries i d) (lt : i < length p.queries) where
+  pub parts_next : (part : QueryPart) (r : Option Reached) → IsShownPart s p q part → IsReachedAsTold p q r → ArePartsTo s p (i + 1) (parts ++ part ∷ []) (rs ++ r ∷ [])
+  parts_next part r h k = record {
     count = length-next parts part ∙ ap (λ k. k + 1) are.count;
     shown = zip_next (IsShownPart s p) p.queries parts i d part lt are.shown (subst (λ x. IsShownPart s p x part) is h);
+    each = length-next rs r ∙ ap (λ k. k + 1) are.each;
+    told = zip_next (IsReachedAsTold p) p.queries rs i d r lt are.told (subst (λ x. IsReachedAsTold p x r) is k);
   }
 
-  pub text_next : (part : QueryPart) → parts_pieces s.style s.digits p (parts ++ part ∷ []) ≡ parts_pieces s.style s.digits p parts ++ part_piece s.style s.digits p q part
-  text_next part =
+  pub text_next : (part : QueryPart) (r : Option Reached)
+      → parts_pieces s.style s.digits p (parts ++ part ∷ []) (rs ++ r ∷ []) ≡ parts_pieces s.style s.digits p parts rs ++ part_piece s.style s.digits p q part r
+  text_next part r =
       let within : length parts < length p.queries = omega (arith, are.count, lt) in
+      let same : length rs ≡ length parts = are.each ∙ sym are.count in
       let there : get_or p.queries (length parts) d ≡ q = ap (λ k. get_or p.queries k d) are.count ∙ sym is in
-      pieces_next s.style s.digits p parts part d within ∙ ap (λ x. parts_pieces s.style s.digits p parts ++ part_piece s.style s.digits p x part) there
+      pieces_next s.style s.digits p parts part rs r d within same ∙ ap (λ x. parts_pieces s.style s.digits p parts rs ++ part_piece s.style s.digits p x part r) there
 
-  pub pieces_more : (text : List ℕ) → IsPiece s p q text → ArePiecesFor s p p.queries (parts_pieces s.style s.digits p parts ++ text)
+  pub pieces_more : (text : List ℕ) → IsPiece s p q text → ArePiecesFor s p p.queries (parts_pieces s.style s.digits p parts rs ++ text)
   pieces_more text h =
-      let next = parts_next h.part h.shown in
+      let next = parts_next h.part h.reached h.shown h.told in
       record {
         parts = parts ++ h.part ∷ [];
+        reached = rs ++ h.reached ∷ [];
         shown = subst (λ k. AreShownParts s p (take k p.queries) (parts ++ h.part ∷ [])) (sym next.count) next.shown;
-        is = ap (λ t. parts_pieces s.style s.digits p parts ++ t) h.is ∙ sym (text_next h.part);
+        told = subst (λ k. AreReachedTo p p.queries k (rs ++ h.reached ∷ [])) (sym next.count) next.told;
+        is = ap (λ t. parts_pieces s.style s.digits p parts rs ++ t) h.is ∙ sym (text_next h.part h.reached);
       }
 
-pub parts_begin : (s : Settings) (p : Parts) → ArePartsTo s p 0 []
-parts_begin s p = record { count = refl; shown = tt }
+pub parts_begin : (s : Settings) (p : Parts) → ArePartsTo s p 0 [] []
+parts_begin s p = record { count = refl; shown = tt; each = refl; told = tt }
 
-pub parts_end : (s : Settings) (p : Parts) (i : ℕ) (parts : List QueryPart) → ArePartsTo s p i parts → length p.queries ≤ i → AreShownParts s p p.queries parts
-parts_end s p i parts h all = subst (λ qs. AreShownParts s p qs parts) (take_all i p.queries all) h.shown
+pub parts_end : (s : Settings) (p : Parts) (i : ℕ) (parts : List QueryPart) (rs : List (Option Reached)) → ArePartsTo s p i parts rs → length p.queries ≤ i → AreShownParts s p p.queries parts
+parts_end s p i parts rs h all = subst (λ qs. AreShownParts s p qs parts) (take_all i p.queries all) h.shown
+
+pub told_end : (s : Settings) (p : Parts) (i : ℕ) (parts : List QueryPart) (rs : List (Option Reached)) → ArePartsTo s p i parts rs → length p.queries ≤ i → AreReachedAsTold p p.queries rs
+told_end s p i parts rs h all = subst (λ qs. AreReachedAsTold p qs rs) (take_all i p.queries all) h.told
 
 -- ---- an answer under way
 pub begun_verdict : (s : Settings) (p : Parts) (text : List ℕ) → IsVerdictPiece s p text → IsBegunText s p text
@@ -116,9 +136,11 @@ begun_verdict s p text h =
     let a : Answer = record { verdict = h.verdict; first = h.events; parts = [] } in
     record {
       answer = a;
+      reached = [];
       under_way = record { verdict = h.shown; parts = tt };
-      is = h.is ∙ sym (append-nil (verdict_piece s.style h.verdict)) ∙ ap (λ t. verdict_piece s.style h.verdict ++ t) (sym (pieces_none s.style s.digits p))
-          ∙ sym (begun_is s.style s.digits p a);
+      told = tt;
+      is = h.is ∙ sym (append-nil (verdict_piece s.style h.verdict)) ∙ ap (λ t. verdict_piece s.style h.verdict ++ t) (sym (pieces_none s.style s.digits p []))
+          ∙ sym (begun_is s.style s.digits p a []);
     }
 
 pub begun_after : (s : Settings) (p : Parts) (v : Verdict) (events : List Event) → IsShownVerdict s p v events → (text : List ℕ) → ArePiecesFor s p (asked_after v p.queries) text
@@ -127,24 +149,28 @@ begun_after s p v events is text h =
     let a : Answer = record { verdict = v; first = events; parts = h.parts } in
     record {
       answer = a;
+      reached = h.reached;
       under_way = record { verdict = is; parts = h.shown };
-      is = ap (λ t. verdict_piece s.style v ++ t) h.is ∙ sym (begun_is s.style s.digits p a);
+      told = h.told;
+      is = ap (λ t. verdict_piece s.style v ++ t) h.is ∙ sym (begun_is s.style s.digits p a h.reached);
     }
 
-pub begun_whole : (s : Settings) (p : Parts) (a : Answer) → IsWhole s p a → IsBegunText s p (begun_text s.style s.digits p a)
-begun_whole s p a h =
+pub begun_whole : (s : Settings) (p : Parts) (a : Answer) (rs : List (Option Reached)) → IsWhole s p a → AreReachedAfter p a.verdict rs → IsBegunText s p (begun_text s.style s.digits p a rs)
+begun_whole s p a rs h k =
     let long : length (asked_after a.verdict p.queries) ≡ length a.parts = sym (AllZip-long (IsShownPart s p) (asked_after a.verdict p.queries) a.parts h.parts) in
     let all : take (length a.parts) (asked_after a.verdict p.queries) ≡ asked_after a.verdict p.queries = take_all (length a.parts) (asked_after a.verdict p.queries) (omega (arith, long)) in
     record {
       answer = a;
+      reached = rs;
       under_way = record { verdict = h.verdict; parts = subst (λ qs. AreShownParts s p qs a.parts) (sym all) h.parts };
+      told = subst (λ qs. AreReachedAsTold p qs rs) (sym all) k;
       is = refl;
     }
 
 -- the text of a whole answer, from its pieces
-pub begun_all : (style : Style) (digits : ℕ) (p : Parts) (v : Verdict) (events : List Event) (parts : List QueryPart)
-    → verdict_piece style v ++ parts_pieces style digits p parts ≡ begun_text style digits p (record { verdict = v; first = events; parts = parts })
-begun_all style digits p v events parts = sym (begun_is style digits p (record { verdict = v; first = events; parts = parts }))
+pub begun_all : (style : Style) (digits : ℕ) (p : Parts) (v : Verdict) (events : List Event) (parts : List QueryPart) (rs : List (Option Reached))
+    → verdict_piece style v ++ parts_pieces style digits p parts rs ≡ begun_text style digits p (record { verdict = v; first = events; parts = parts }) rs
+begun_all style digits p v events parts rs = sym (begun_is style digits p (record { verdict = v; first = events; parts = parts }) rs)
 
 -- ---- a whole answer
 valid-part : (s : Settings) (p : Parts) (q : Query) (part : QueryPart) → IsShownPart s p q part → IsValidPart p q (part_of part.answer)

@@ -4,6 +4,10 @@ pub mod IdleLaws
 pub mod ShownLaws
 pub mod EndLaws
 pub mod JudgedLaws
+pub mod ValueLaws
+pub mod Orders
+pub mod Bounds
+pub mod ReachedLaws
 pub mod FrontLaws
 pub mod StepLaws
 pub mod DueLaws

@@ -4,6 +4,8 @@ pub mod Statuses
 pub mod Reads
 pub mod Clashes
 pub mod Conditions
+pub mod Reached
+pub mod Known
 pub mod Fronts
 pub mod Shown
 -- The law of decimals
@@ -11,3 +13,5 @@ pub mod Decimals
 -- Bridge: what a reply stands for, and what is known between turns
 pub mod Replies
 pub mod Rounds
+-- Bridge: the weights of worlds
+pub mod Weights

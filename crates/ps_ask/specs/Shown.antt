@@ -26,7 +26,7 @@ use Rattle.ps_ask.specs.declared.sinks.Sinks.{Sinks}
 use Rattle.ps_ask.specs.declared.status.Status.{Status}
 use Rattle.ps_ask.specs.declared.status.Status.TheVariants.{Unreadable, ReadFault, WriteFault, ReportFault, NoMemory}
 use Rattle.ps_ask.specs.Clashes.{IsClashAt}
-use Rattle.ps_ask.specs.Fronts.{IsBegunText, IsWhole, begun_text}
+use Rattle.ps_ask.specs.Fronts.{AreReachedAfter, IsBegunText, IsWhole, begun_text}
 use Rattle.ps_ask.specs.Late.{is_late}
 use Rattle.ps_ask.specs.Statuses.{open_in, status_after, status_number}
 
@@ -55,7 +55,7 @@ last_text Report timed p a t = report_of timed a
 
 -- an answer as it is shown: what is shown as it goes, and what is shown at the end
 abbrev pub shown_by : Settings → Parts → Answer → Beside → List ℕ
-shown_by s p a t = begun_text s.style s.digits p a ++ last_text s.style s.is_timed p a t
+shown_by s p a t = begun_text s.style s.digits p a t.reached ++ last_text s.style s.is_timed p a t
 
 -- sentences that clash are looked for where they are shown: in words and in an object
 abbrev pub IsClashFor : Style → Settings → Parts → Verdict → Option Clash → Type 0
@@ -96,12 +96,14 @@ abbrev pub no_output : Output
 no_output = record { text = []; report = []; status = Unreadable }
 
 -- the output shows a whole answer to a problem: it is valid and right, and each part has its certificates or comes of a lawful
--- run, unless something is shown as not finished in time
+-- run, unless something is shown as not finished in time; and each value that is shown as reached of a query is reached by
+-- some distribution that meets the sentences
 pub record IsSolvedBy (s : Settings) (name : List ℕ) (p : Parts) (o : Output) : Type 0 where
   pub answer : Answer
   pub whole : IsWhole s p answer
   pub beside : Beside
   pub told : IsToldFor s name p answer beside
+  pub reached : AreReachedAfter p answer.verdict beside.reached
   pub is : o ≡ answer_output s p answer beside
 
 -- due for bytes under a name: an answer to the problem that they spell is shown; or nothing is, where they are no

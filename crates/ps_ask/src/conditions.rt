@@ -8,9 +8,9 @@ use crate::company::Company;
 use crate::notes::Input;
 use crate::settings::Settings;
 use crate::sought::Sought;
+use crate::weights::truth_in;
 use ps_answer::{Answer, Model, QueryAnswer, SideAnswer, Verdict};
 use ps_engine::Engine;
-use ps_float_pricing::Member;
 use ps_guess::{InTime, Trials, nothing_in_time};
 use ps_hints::{Warning, idle_warning, sentence_lines};
 use ps_io::{List, NoMemory};
@@ -25,8 +25,8 @@ fn mark_by_model(
     marks: &mut Vec<bool>,
 ) -> Result<(), NoMemory> {
     for weighted in model.worlds.as_slice() {
-        if let Some(member) = Member::new(alloc, problem, weighted.world.copy(alloc)?)? {
-            mark_true(&member.truth, marks);
+        if let Some(truth) = truth_in(alloc, problem, &weighted.world)? {
+            mark_true(&truth, marks);
         }
     }
     Ok(())

@@ -1,9 +1,14 @@
 //! What is shown of an answer as it goes: its verdict, and each part as soon as it is done.
-ghost use Rattle.std.specs.Prelude.{◌≡◌, IfErr, IfOk, OnOk};
+ghost use Rattle.std.specs.Prelude.{◌≡◌, ◌++◌, ◌∷◌, [], IfErr, IfOk, OnOk, length};
 ghost use Rattle.ps_io.specs.Transfer.{Appends};
-ghost use Rattle.ps_problem.specs.Problems.{HasNodes};
+ghost use Rattle.ps_problem.specs.Problems.{HasNodes, bounds_of};
+ghost use Rattle.ps_claims.specs.Answers.{IsRightVerdict, ShowsConsistent};
+ghost use Rattle.ps_valid.specs.Answers.{verdict_of};
+ghost use Rattle.ps_claims.specs.Certificates.{model_of};
+ghost use Rattle.ps_ask.specs.Reached.{AreReachedAsTold, IsReachedAsTold};
 ghost use Rattle.ps_ask.specs.Shown.{AreSettings};
-ghost use Rattle.ps_ask.specs.Fronts.{AreShownAfter, AreShownParts, IsBegunText, IsShownPart};
+ghost use Rattle.ps_ask.specs.Fronts.{AreReachedAfter, AreShownAfter, AreShownParts, IsBegunText};
+ghost use Rattle.ps_ask.specs.Fronts.{IsShownPart};
 ghost use Rattle.ps_ask.specs.Fronts.{IsShownVerdict, IsWhole, begun_of, part_piece, piece_of};
 ghost use Rattle.ps_ask.specs.Fronts.{pieces_of, verdict_piece, verdict_shown};
 ghost use Rattle.ps_ask.specs.Rounds.{IsPending};
@@ -15,15 +20,17 @@ use crate::conditions::idle_noted;
 use crate::judged::{judged_part, judged_verdict};
 use crate::notes::{Input, MISSING, warnings_noted};
 use crate::pieces::{part_piece, verdict_piece};
+use crate::reached::reached_of;
 use crate::reply::ReplyError;
 use crate::rounds::{Rounds, settle_query};
 use crate::settings::Settings;
 use crate::sought::Sought;
-use ps_answer::{Answer, Parts, QueryPart, Verdict};
+use ps_answer::{Answer, Model, Parts, QueryPart, Verdict};
 use ps_engine::Engine;
 use ps_guess::{InTime, Pending, Trials};
 use ps_io::{List, NoMemory, Sink, write_all};
 use ps_problem::{Problem, Query};
+use ps_spoken::Reached;
 use ps_table::Trace;
 use std::alloc::Global;
 
@@ -82,48 +89,60 @@ fn show_verdict<O: Sink, W: Company>(
     }
 }
 
-// The part of a query of the problem of trials, of which this is known, and its piece.
+// The part of a query of the problem of trials, of which this is known, with what is reached of it,
+// beside a distribution, and its piece.
+#[tactic(auto, using(crate::proofs::ReachedLaws::right_shown))]
 fn part_with_piece<W: Company>(
     alloc: Global,
     settings: Settings,
     trials: &Trials<'_>,
+    model: &Model,
     query: Query,
     pending: Pending,
     timed: &mut InTime<'_, Engine, W>,
-) -> Result<(QueryPart, Vec<u8>), NoMemory>
+) -> Result<((QueryPart, Option<Reached>), Vec<u8>), NoMemory>
     requires settings { AreSettings settings }
+    requires model { ShowsConsistent (length trials.now.names) (bounds_of trials.now)
+        (model_of model.now) }
     requires query { HasNodes trials.now.nodes query.formula query.given query.both }
     requires pending { IsPending settings trials.now query pending }
-    ensures judged { IfOk result (λ r. IsShownPart settings trials.now query r.0) }
+    ensures judged { IfOk result (λ r. IsShownPart settings trials.now query r.0.0) }
+    ensures reached { IfOk result (λ r. IsReachedAsTold trials.now query r.0.1) }
     ensures piece { IfOk result (λ r. r.1.items ≡ piece_of settings trials.now query r.0) }
 {
     let part = judged_part(alloc, settings, trials, query, pending)?;
-    let text = part_piece(alloc, settings, trials.problem(), query, &part)?;
+    let reached = reached_of(alloc, trials.problem(), query, &part.answer, model)?;
+    let text = part_piece(alloc, settings, trials.problem(), query, &part, &reached)?;
     timed.watch.clear();
-    Ok((part, text))
+    Ok(((part, reached), text))
 }
 
-// Shows the part of a query of the problem of trials, of which this is known.
+// Shows the part of a query of the problem of trials, of which this is known, with what is reached of
+// it, beside a distribution.
 #[tactic(auto, using(crate::proofs::EndLaws::nothing_ended, crate::proofs::EndLaws::part_cut))]
 fn show_part<O: Sink, W: Company>(
     alloc: Global,
     settings: Settings,
     trials: &Trials<'_>,
+    model: &Model,
     query: Query,
     pending: Pending,
     timed: &mut InTime<'_, Engine, W>,
     sink: &mut O,
-) -> Result<QueryPart, ReplyError>
+) -> Result<(QueryPart, Option<Reached>), ReplyError>
     requires settings { AreSettings settings }
+    requires model { ShowsConsistent (length trials.now.names) (bounds_of trials.now)
+        (model_of model.now) }
     requires query { HasNodes trials.now.nodes query.formula query.given query.both }
     requires pending { IsPending settings trials.now query pending }
-    ensures judged { IfOk result (IsShownPart settings trials.now query) }
+    ensures judged { IfOk result (λ r. IsShownPart settings trials.now query r.0) }
+    ensures reached { IfOk result (λ r. IsReachedAsTold trials.now query r.1) }
     ensures wrote { IfOk result
         (Adds O.Sink sink.old sink.new (piece_of settings trials.now query)) }
     ensures ended { Stops O.Sink sink.old sink.new (IsPiece settings trials.now query) result }
     ensures faults { CountsShown result (O.faults sink.old) (O.faults sink.new) }
 {
-    match part_with_piece(alloc, settings, trials, query, pending, timed) {
+    match part_with_piece(alloc, settings, trials, model, query, pending, timed) {
         Ok((part, text)) => match show_text(sink, &text) {
             Ok(()) => Ok(part),
             Err(error) => Err(error),
@@ -132,23 +151,43 @@ fn show_part<O: Sink, W: Company>(
     }
 }
 
-// Shows the part of each query of the problem of trials, as soon as it and those before it are done.
+// Adds a part, and what is reached of its query.
+fn add_part(
+    parts: &mut Parts,
+    reached: &mut List<Option<Reached>>,
+    part: QueryPart,
+    told: Option<Reached>,
+) -> Result<(), NoMemory>
+    ensures parts { OnOk result (parts.new ≡ parts.old ++ part ∷ []) }
+    ensures reached { OnOk result (reached.new ≡ reached.old ++ told ∷ []) }
+{
+    parts.push(part)?;
+    reached.push(told)
+}
+
+// Shows the part of each query of the problem of trials, as soon as it and those before it are done,
+// with what is reached of it, beside a distribution.
 #[tactic(auto, using(crate::proofs::EndLaws::nothing_ended))]
 fn show_parts<O: Sink, W: Company>(
     alloc: Global,
     settings: Settings,
     trials: &Trials<'_>,
+    model: &Model,
     timed: &mut InTime<'_, Engine, W>,
     sink: &mut O,
-) -> Result<Parts, ReplyError>
+) -> Result<(Parts, List<Option<Reached>>), ReplyError>
     requires settings { AreSettings settings }
-    ensures judged { IfOk result (AreShownParts settings trials.now trials.now.queries) }
+    requires model { ShowsConsistent (length trials.now.names) (bounds_of trials.now)
+        (model_of model.now) }
+    ensures judged { IfOk result (λ r. AreShownParts settings trials.now trials.now.queries r.0) }
+    ensures reached { IfOk result (λ r. AreReachedAsTold trials.now trials.now.queries r.1) }
     ensures wrote { IfOk result
         (Adds O.Sink sink.old sink.new (pieces_of settings trials.now)) }
     ensures ended { Stops O.Sink sink.old sink.new (AreAllPieces settings trials.now) result }
     ensures faults { CountsShown result (O.faults sink.old) (O.faults sink.new) }
 {
     let mut parts = List::new(alloc);
+    let mut reached = List::new(alloc);
     let queries = trials.problem().queries().as_slice();
     let Ok(mut rounds) = Rounds::new(alloc, queries.len()) else {
         return Err(ReplyError::NoMemory);
@@ -158,20 +197,20 @@ fn show_parts<O: Sink, W: Company>(
         let Ok(pending) = settle_query(alloc, settings, trials, place, &mut rounds, timed) else {
             return Err(ReplyError::NoMemory);
         };
-        match show_part(alloc, settings, trials, *query, pending, timed, sink) {
-            Ok(part) => {
-                if parts.push(part).is_err() {
+        match show_part(alloc, settings, trials, model, *query, pending, timed, sink) {
+            Ok((part, told)) => {
+                if add_part(&mut parts, &mut reached, part, told).is_err() {
                     return Err(ReplyError::NoMemory);
                 }
             }
             Err(error) => return Err(error),
         }
     }
-    Ok(parts)
+    Ok((parts, reached))
 }
 
-// Shows the parts of the queries that are asked behind a verdict.
-#[tactic(auto, using(crate::proofs::StepLaws::nothing_shown))]
+// Shows the parts of the queries that are asked behind a verdict, with what is reached of each.
+#[tactic(auto, using(crate::proofs::StepLaws::nothing_shown, crate::proofs::ReachedLaws::shown_model))]
 fn show_parts_under<O: Sink, W: Company>(
     alloc: Global,
     settings: Settings,
@@ -179,9 +218,12 @@ fn show_parts_under<O: Sink, W: Company>(
     verdict: &Verdict,
     timed: &mut InTime<'_, Engine, W>,
     sink: &mut O,
-) -> Result<Parts, ReplyError>
+) -> Result<(Parts, List<Option<Reached>>), ReplyError>
     requires settings { AreSettings settings }
-    ensures judged { IfOk result (AreShownAfter settings trials.now verdict.now) }
+    requires right { IsRightVerdict (length trials.now.names) (bounds_of trials.now)
+        (verdict_of verdict.now) }
+    ensures judged { IfOk result (λ r. AreShownAfter settings trials.now verdict.now r.0) }
+    ensures reached { IfOk result (λ r. AreReachedAfter trials.now verdict.now r.1) }
     ensures wrote { IfOk result
         (Adds O.Sink sink.old sink.new (pieces_of settings trials.now)) }
     ensures ended { Stops O.Sink sink.old sink.new
@@ -189,25 +231,26 @@ fn show_parts_under<O: Sink, W: Company>(
     ensures faults { CountsShown result (O.faults sink.old) (O.faults sink.new) }
 {
     match verdict {
-        Verdict::Consistent(_) => show_parts(alloc, settings, trials, timed, sink),
-        Verdict::Inconsistent(_) | Verdict::Open(_) => Ok(List::new(alloc)),
+        Verdict::Consistent(model) => show_parts(alloc, settings, trials, model, timed, sink),
+        Verdict::Inconsistent(_) | Verdict::Open(_) => Ok((List::new(alloc), List::new(alloc))),
     }
 }
 
-// Shows an answer to the problem of trials as it goes.
+// Shows an answer to the problem of trials as it goes, with what is reached of each query.
 fn show_answer<O: Sink, W: Company>(
     alloc: Global,
     settings: Settings,
     trials: &Trials<'_>,
     timed: &mut InTime<'_, Engine, W>,
     sink: &mut O,
-) -> Result<Answer, ReplyError>
+) -> Result<(Answer, List<Option<Reached>>), ReplyError>
     requires settings { AreSettings settings }
-    ensures whole { IfOk result (IsWhole settings trials.now) }
+    ensures whole { IfOk result (λ r. IsWhole settings trials.now r.0) }
+    ensures reached { IfOk result (λ r. AreReachedAfter trials.now r.0.verdict r.1) }
     ensures wrote { IfOk result
         (Adds O.Sink sink.old sink.new (begun_of settings trials.now)) }
     ensures ended { Stops O.Sink sink.old sink.new (IsBegunText settings trials.now) result }
-    ensures short { IfOk result (AreShortInTime settings.is_timed) }
+    ensures short { IfOk result (λ r. AreShortInTime settings.is_timed r.0) }
     ensures faults { CountsShown result (O.faults sink.old) (O.faults sink.new) }
 {
     // Called for its clause: the problem is in order.
@@ -215,11 +258,14 @@ fn show_answer<O: Sink, W: Company>(
     match show_verdict(alloc, settings, trials, timed, sink) {
         Ok((verdict, first)) => {
             match show_parts_under(alloc, settings, trials, &verdict, timed, sink) {
-                Ok(parts) => Ok(Answer {
-                    verdict,
-                    first,
-                    parts,
-                }),
+                Ok((parts, reached)) => Ok((
+                    Answer {
+                        verdict,
+                        first,
+                        parts,
+                    },
+                    reached,
+                )),
                 Err(error) => Err(error),
             }
         }
@@ -254,7 +300,7 @@ fn warn_of_conditions<W: Company>(
     }
 }
 
-/// Shows an answer to a problem as it goes, and gives it.
+/// Shows an answer to a problem as it goes, with what is reached of each query, and gives both.
 #[tactic(auto, using(crate::proofs::EndLaws::nothing_ended))]
 pub fn show_front<O: Sink, W: Company>(
     alloc: Global,
@@ -263,13 +309,14 @@ pub fn show_front<O: Sink, W: Company>(
     problem: &Problem,
     sink: &mut O,
     watch: &mut W,
-) -> Result<Answer, ReplyError>
+) -> Result<(Answer, List<Option<Reached>>), ReplyError>
     requires settings { AreSettings settings }
-    ensures whole { IfOk result (IsWhole settings problem.now) }
+    ensures whole { IfOk result (λ r. IsWhole settings problem.now r.0) }
+    ensures reached { IfOk result (λ r. AreReachedAfter problem.now r.0.verdict r.1) }
     ensures wrote { IfOk result
         (Adds O.Sink sink.old sink.new (begun_of settings problem.now)) }
     ensures ended { Stops O.Sink sink.old sink.new (IsBegunText settings problem.now) result }
-    ensures short { IfOk result (AreShortInTime settings.is_timed) }
+    ensures short { IfOk result (λ r. AreShortInTime settings.is_timed r.0) }
     ensures faults { CountsShown result (O.faults sink.old) (O.faults sink.new) }
 {
     let Ok(trials) = Trials::new(alloc, problem, settings.limits.conflicts) else {
@@ -281,9 +328,9 @@ pub fn show_front<O: Sink, W: Company>(
     engine.pause_every(ROUNDS);
     let mut timed = InTime::new(&mut engine, watch);
     match show_answer(alloc, settings, &trials, &mut timed, sink) {
-        Ok(answer) => {
+        Ok((answer, reached)) => {
             warn_of_conditions(alloc, settings, input, &trials, &answer, &mut timed);
-            Ok(answer)
+            Ok((answer, reached))
         }
         Err(error) => Err(error),
     }

@@ -18,7 +18,7 @@ use ps_answer::Answer;
 use ps_hints::sentence_lines;
 use ps_io::NoMemory;
 use ps_problem::Problem;
-use ps_spoken::{Clash, Told, Warned, write_clash, write_object};
+use ps_spoken::{Clash, Reached, Told, Warned, write_clash, write_object};
 use std::alloc::Global;
 
 // Which sentences clash, in words, where some do.
@@ -60,11 +60,13 @@ fn told_beside<'a>(
     name: &'a str,
     lines: &'a [u32],
     answer: &Answer,
+    reached: &'a [Option<Reached>],
     clash: &'a Option<Clash>,
     warnings: &'a [Warned],
 ) -> Told<'a>
     ensures digits { result.digits ≡ settings.digits }
     ensures file { result.file.now ≡ name.now }
+    ensures reached { result.reached.now ≡ reached.now }
     ensures clash { result.clash.now ≡ clash.now }
     ensures lines { result.lines.now ≡ lines.now }
     ensures warnings { result.warnings.now ≡ warnings.now }
@@ -74,6 +76,7 @@ fn told_beside<'a>(
     Told {
         digits: settings.digits,
         file: name.as_bytes(),
+        reached,
         clash,
         lines,
         warnings,
@@ -90,12 +93,14 @@ fn in_words<W: Company>(
     input: Input<'_>,
     problem: &Problem,
     answer: Answer,
+    reached: &[Option<Reached>],
     watch: &mut W,
 ) -> Result<Reply, NoMemory>
     requires settings { AreSettings settings }
     requires right { IsRightOf problem.now answer }
     requires words { settings.style ≡ style.Words }
-    ensures { IfOk result (IsShownFor settings input.entry.name.now problem.now answer) }
+    ensures { IfOk result
+        (IsShownFor settings input.entry.name.now problem.now answer reached.now) }
 {
     let clash = clash_in(alloc, problem, settings, &answer, watch)?;
     let lines = sentence_lines(alloc, input.bytes)?;
@@ -111,22 +116,26 @@ fn in_object<W: Company>(
     input: Input<'_>,
     problem: &Problem,
     answer: Answer,
+    reached: &[Option<Reached>],
     watch: &mut W,
 ) -> Result<Reply, NoMemory>
     requires settings { AreSettings settings }
     requires right { IsRightOf problem.now answer }
     requires json { settings.style ≡ style.Json }
-    ensures { IfOk result (IsShownFor settings input.entry.name.now problem.now answer) }
+    ensures { IfOk result
+        (IsShownFor settings input.entry.name.now problem.now answer reached.now) }
 {
     let clash = clash_in(alloc, problem, settings, &answer, watch)?;
     let lines = sentence_lines(alloc, input.bytes)?;
     let warnings = problem_warned(alloc, settings, input, problem)?;
-    let told = told_beside(settings, input.name, &lines, &answer, &clash, &warnings);
+    let told = told_beside(
+        settings, input.name, &lines, &answer, reached, &clash, &warnings,
+    );
     let text = object_text(alloc, problem, &answer, &told)?;
     Ok(Reply::Text { answer, text })
 }
 
-/// The reply that shows the end of an answer.
+/// The reply that shows the end of an answer, beside what is reached of each query.
 #[tactic(auto, using(crate::proofs::ShownLaws::values_shown, crate::proofs::ShownLaws::exact_shown, crate::proofs::ShownLaws::report_shown))]
 pub fn show_last<W: Company>(
     alloc: Global,
@@ -134,19 +143,21 @@ pub fn show_last<W: Company>(
     input: Input<'_>,
     problem: &Problem,
     answer: Answer,
+    reached: &[Option<Reached>],
     watch: &mut W,
 ) -> Result<Reply, NoMemory>
     requires settings { AreSettings settings }
     requires right { IsRightOf problem.now answer }
-    ensures { IfOk result (IsShownFor settings input.entry.name.now problem.now answer) }
+    ensures { IfOk result
+        (IsShownFor settings input.entry.name.now problem.now answer reached.now) }
 {
     match settings.style {
-        Style::Words => in_words(alloc, settings, input, problem, answer, watch),
+        Style::Words => in_words(alloc, settings, input, problem, answer, reached, watch),
         Style::Values | Style::Exact => Ok(Reply::Text {
             answer,
             text: Vec::new(alloc),
         }),
-        Style::Json => in_object(alloc, settings, input, problem, answer, watch),
+        Style::Json => in_object(alloc, settings, input, problem, answer, reached, watch),
         Style::Report => Ok(Reply::Report(answer)),
     }
 }

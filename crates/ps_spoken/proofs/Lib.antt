@@ -1,5 +1,4 @@
 pub mod ClashLists
-pub mod Paired
 pub mod Said
 pub mod Sides
 pub mod Values

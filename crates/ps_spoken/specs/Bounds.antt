@@ -1,5 +1,5 @@
 -- The bounds of a query as objects.
-use Rattle.std.specs.Prelude.{ℕ, List, ◌++◌, codes}
+use Rattle.std.specs.Prelude.{ℕ, List, ◌++◌, codes, Option, Some, None}
 use Rattle.std.specs.declared.cmp.Ordering.{Ordering}
 use Rattle.std.specs.declared.cmp.Ordering.TheVariants.{Less, Equal, Greater}
 use Rattle.ps_meaning.specs.Rational.{Rational}
@@ -8,25 +8,44 @@ use Rattle.ps_answer.specs.declared.answer.Cause.{Cause}
 use Rattle.ps_answer.specs.declared.answer.SideAnswer.{SideAnswer}
 use Rattle.ps_answer.specs.declared.answer.SideAnswer.TheVariants.{Bound, Open}
 use Rattle.ps_spoken.specs.Numbers.{fraction_text, low_text, high_text}
+use Rattle.ps_spoken.specs.declared.reached.Reached.{Reached}
 use Rattle.ps_spoken.specs.Spoken.{cause_text}
 
 -- the exact value of a bound, up to its decimal
 unfoldable pub exact_text : Rational → List ℕ
 exact_text x = codes "{\"exact\":\"" ++ (fraction_text x ++ codes "\",\"decimal\":\"")
 
--- a side that is open
-unfoldable pub open_object : Cause → List ℕ
-open_object c = codes "{\"exact\":null,\"decimal\":null,\"why\":\"" ++ (cause_text c ++ codes "\"}")
+-- why a side is open, up to what is known of it
+unfoldable pub stopped_object : Cause → List ℕ
+stopped_object c = codes "{\"exact\":null,\"decimal\":null,\"why\":\"" ++ (cause_text c ++ codes "\",\"proved\":\"")
+
+-- the least value that is reached, with its decimal rounded up, where one is
+unfoldable pub least_object : ℕ → Option Reached → List ℕ
+least_object digits (Some r) = exact_text r.least ++ (high_text digits r.least ++ codes "\"}")
+least_object digits None = codes "null"
+
+-- the greatest value that is reached, with its decimal rounded down, where one is
+unfoldable pub greatest_object : ℕ → Option Reached → List ℕ
+greatest_object digits (Some r) = exact_text r.greatest ++ (low_text digits r.greatest ++ codes "\"}")
+greatest_object digits None = codes "null"
+
+-- a lower side that is open: it is at least 0, and at most what is reached
+unfoldable pub open_lower : ℕ → Cause → Option Reached → List ℕ
+open_lower digits c r = stopped_object c ++ (codes "0\",\"reached\":" ++ (least_object digits r ++ codes "}"))
+
+-- an upper side that is open: it is at most 1, and at least what is reached
+unfoldable pub open_upper : ℕ → Cause → Option Reached → List ℕ
+open_upper digits c r = stopped_object c ++ (codes "1\",\"reached\":" ++ (greatest_object digits r ++ codes "}"))
 
 -- a lower bound: its exact value, and its decimal rounded down
-unfoldable pub lower_object : ℕ → SideAnswer → List ℕ
-lower_object digits (Bound x m d) = exact_text x ++ (low_text digits x ++ codes "\",\"why\":null}")
-lower_object digits (Open c) = open_object c
+unfoldable pub lower_object : ℕ → SideAnswer → Option Reached → List ℕ
+lower_object digits (Bound x m d) r = exact_text x ++ (low_text digits x ++ codes "\",\"why\":null}")
+lower_object digits (Open c) r = open_lower digits c r
 
 -- an upper bound: its exact value, and its decimal rounded up
-unfoldable pub upper_object : ℕ → SideAnswer → List ℕ
-upper_object digits (Bound x m d) = exact_text x ++ (high_text digits x ++ codes "\",\"why\":null}")
-upper_object digits (Open c) = open_object c
+unfoldable pub upper_object : ℕ → SideAnswer → Option Reached → List ℕ
+upper_object digits (Bound x m d) r = exact_text x ++ (high_text digits x ++ codes "\",\"why\":null}")
+upper_object digits (Open c) r = open_upper digits c r
 
 -- whether two bounds in this order are one value
 abbrev pub ordered_status : Ordering → List ℕ
@@ -41,10 +60,20 @@ status_text (Bound x m d) (Open c) = codes "bounds"
 status_text (Open c) upper = codes "bounds"
 
 -- both sides of a query
-unfoldable pub sides_members : ℕ → SideAnswer → SideAnswer → List ℕ
-sides_members digits lower upper = lower_object digits lower ++ (codes ",\"upper\":" ++ (upper_object digits upper ++ codes "}"))
+unfoldable pub sides_members : ℕ → SideAnswer → SideAnswer → Option Reached → List ℕ
+sides_members digits lower upper r =
+    lower_object digits lower r ++ (codes ",\"upper\":" ++ (upper_object digits upper r ++ codes "}"))
 
 -- the members of a query with bounds, from its status on
-abbrev pub bounds_members : ℕ → SideAnswer → SideAnswer → List ℕ
-bounds_members digits lower upper = status_text lower upper
-    ++ (codes "\",\"why\":null,\"lower\":" ++ sides_members digits lower upper)
+abbrev pub bounds_members : ℕ → SideAnswer → SideAnswer → Option Reached → List ℕ
+bounds_members digits lower upper r = status_text lower upper
+    ++ (codes "\",\"why\":null,\"lower\":" ++ sides_members digits lower upper r)
+
+-- both sides of a query that is open
+unfoldable pub open_sides : ℕ → Cause → Option Reached → List ℕ
+open_sides digits c r = open_lower digits c r ++ (codes ",\"upper\":" ++ (open_upper digits c r ++ codes "}"))
+
+-- the members of a query that is open, from its status on
+unfoldable pub open_members : ℕ → Cause → Option Reached → List ℕ
+open_members digits c r =
+    codes "open\",\"why\":\"" ++ (cause_text c ++ (codes "\",\"lower\":" ++ open_sides digits c r))

@@ -1,5 +1,6 @@
 -- Meaning: answers in words and numbers
 pub mod Numbers
+pub mod Reached
 pub mod Spoken
 pub mod Quiet
 pub mod Exact

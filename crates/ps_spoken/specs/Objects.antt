@@ -9,6 +9,7 @@ use Rattle.ps_answer.specs.declared.answer.Verdict.TheVariants.{Consistent, Inco
 use Rattle.ps_spoken.specs.declared.clash.Clash.{Clash}
 use Rattle.ps_spoken.specs.Spoken.{cause_text}
 use Rattle.ps_spoken.specs.declared.object.Told.{Told}
+use Rattle.ps_spoken.specs.declared.reached.Reached.{Reached}
 use Rattle.ps_spoken.specs.JsonClashes.{clash_member}
 use Rattle.ps_spoken.specs.Counts.{counts_object}
 use Rattle.ps_spoken.specs.Queries.{queries_text}
@@ -16,11 +17,12 @@ use Rattle.ps_spoken.specs.Strings.{string_text}
 use Rattle.ps_spoken.specs.Warned.{warned_member}
 use Rattle.ps_spoken.specs.declared.warned.Warned.{Warned}
 
--- what is told beside an answer: how many digits decimals have, the file's name, which sentences clash, the lines of
--- sentences, warnings about the problem, how much is open, and the status
+-- what is told beside an answer: how many digits decimals have, the file's name, what is reached of each query, which
+-- sentences clash, the lines of sentences, warnings about the problem, how much is open, and the status
 pub record Beside : Type 0 where
   pub digits : ℕ
   pub file : List ℕ
+  pub reached : List (Option Reached)
   pub clash : Option Clash
   pub lines : List ℕ
   pub warnings : List Warned
@@ -32,6 +34,7 @@ abbrev pub facts : Told → Beside
 facts t = record {
   digits = t.digits;
   file = t.file.now;
+  reached = t.reached.now;
   clash = t.clash.now;
   lines = t.lines.now;
   warnings = t.warnings.now;
@@ -64,4 +67,4 @@ end_text p t =
 unfoldable pub object : Parts → Answer → Beside → List ℕ
 object p a t =
     codes "{\"file\":" ++ (string_text t.file
-    ++ (verdict_members a.verdict ++ (codes ",\"queries\":[" ++ (queries_text t.digits p a.parts ++ end_text p t))))
+    ++ (verdict_members a.verdict ++ (codes ",\"queries\":[" ++ (queries_text t.digits p a.parts t.reached ++ end_text p t))))

@@ -1,5 +1,5 @@
 -- What is written of an answer for people.
-use Rattle.std.specs.Prelude.{ℕ, pos, ◌==◌, if◌then◌else◌, List, [], ◌∷◌, ◌++◌, codes}
+use Rattle.std.specs.Prelude.{ℕ, pos, ◌==◌, if◌then◌else◌, List, [], ◌∷◌, ◌++◌, codes, Option}
 use Rattle.std.specs.Fmt.{signed_decimal}
 use Rattle.std.specs.declared.cmp.Ordering.{Ordering}
 use Rattle.std.specs.declared.cmp.Ordering.TheVariants.{Less, Equal, Greater}
@@ -20,6 +20,8 @@ use Rattle.ps_answer.specs.declared.answer.QueryPart.{QueryPart}
 use Rattle.ps_answer.specs.declared.answer.Answer.{Answer}
 use Rattle.ps_spoken.specs.declared.cause.TheConstants.{OUT_OF_TIME}
 use Rattle.ps_spoken.specs.Numbers.{fraction_text, low_text, high_text}
+use Rattle.ps_spoken.specs.declared.reached.Reached.{Reached}
+use Rattle.ps_spoken.specs.Reached.{lower_between, upper_between}
 
 -- a limit between words
 abbrev pub limit_text : List ℕ → ℕ → List ℕ → List ℕ
@@ -64,51 +66,52 @@ ordered_text Greater digits x y = two_values_text digits x y
 abbrev pub between_text : ℕ → Rational → Rational → List ℕ
 between_text digits x y = ordered_text (order_of x y) digits x y
 
--- the lower side of a query: its bound, or what stopped it
-abbrev pub lower_text : ℕ → SideAnswer → List ℕ
-lower_text digits (side.Bound x m d) = codes "  at least "
-    ++ (fraction_text x ++ (codes " (" ++ (low_text digits x ++ codes ")\n")))
-lower_text digits (side.Open c) = codes "  no lower bound yet: " ++ (cause_text c ++ codes "\n")
+-- what stopped a side, behind between which numbers it lies
+abbrev pub stopped_text : Cause → List ℕ
+stopped_text c = codes ": " ++ (cause_text c ++ codes "\n")
 
--- the upper side of a query: its bound, or what stopped it
-abbrev pub upper_text : ℕ → SideAnswer → List ℕ
-upper_text digits (side.Bound x m d) = codes "  at most "
+-- the lower side of a query: its bound, or between which numbers it lies, and what stopped it
+abbrev pub lower_text : ℕ → SideAnswer → Option Reached → List ℕ
+lower_text digits (side.Bound x m d) r = codes "  at least "
+    ++ (fraction_text x ++ (codes " (" ++ (low_text digits x ++ codes ")\n")))
+lower_text digits (side.Open c) r = codes "  " ++ (lower_between digits r ++ stopped_text c)
+
+-- the upper side of a query: its bound, or between which numbers it lies, and what stopped it
+abbrev pub upper_text : ℕ → SideAnswer → Option Reached → List ℕ
+upper_text digits (side.Bound x m d) r = codes "  at most "
     ++ (fraction_text x ++ (codes " (" ++ (high_text digits x ++ codes ")\n")))
-upper_text digits (side.Open c) = codes "  no upper bound yet: " ++ (cause_text c ++ codes "\n")
+upper_text digits (side.Open c) r = codes "  " ++ (upper_between digits r ++ stopped_text c)
 
 -- each side of a query
-abbrev pub sides_text : ℕ → SideAnswer → SideAnswer → List ℕ
-sides_text digits lower upper = lower_text digits lower ++ upper_text digits upper
+abbrev pub sides_text : ℕ → SideAnswer → SideAnswer → Option Reached → List ℕ
+sides_text digits lower upper r = lower_text digits lower r ++ upper_text digits upper r
 
 -- both bounds, or each side
-abbrev pub bounds_text : ℕ → SideAnswer → SideAnswer → List ℕ
-bounds_text digits (side.Bound x m d) (side.Bound y n e) = between_text digits x y
-bounds_text digits (side.Bound x m d) (side.Open c) = sides_text digits (side.Bound x m d) (side.Open c)
-bounds_text digits (side.Open c) upper = sides_text digits (side.Open c) upper
+abbrev pub bounds_text : ℕ → SideAnswer → SideAnswer → Option Reached → List ℕ
+bounds_text digits (side.Bound x m d) (side.Bound y n e) r = between_text digits x y
+bounds_text digits (side.Bound x m d) (side.Open c) r = sides_text digits (side.Bound x m d) (side.Open c) r
+bounds_text digits (side.Open c) upper r = sides_text digits (side.Open c) upper r
 
--- the answer to a query
-abbrev pub answer_text : ℕ → QueryAnswer → List ℕ
-answer_text digits (query.Bounds lower lower_trace upper upper_trace) = bounds_text digits lower upper
-answer_text digits (query.Impossible d) = codes "  impossible: the sentences give the condition probability 0\n"
-answer_text digits (query.Open c) = codes "  open: " ++ (cause_text c ++ codes "\n")
+-- between which numbers both bounds of a query lie
+unfoldable pub between_both : ℕ → Option Reached → List ℕ
+between_both digits r = codes "  " ++ (lower_between digits r ++ (codes "\n  " ++ (upper_between digits r ++ codes "\n")))
+
+-- the answer to a query, and what is reached of it where it is open
+abbrev pub answer_text : ℕ → QueryAnswer → Option Reached → List ℕ
+answer_text digits (query.Bounds lower lower_trace upper upper_trace) r = bounds_text digits lower upper r
+answer_text digits (query.Impossible d) r = codes "  impossible: the sentences give the condition probability 0\n"
+answer_text digits (query.Open c) r = codes "  open: " ++ (cause_text c ++ (codes "\n" ++ between_both digits r))
 
 -- a query by its own text, and the answer to it
-abbrev pub part_text : ℕ → Parts → Query → QueryPart → List ℕ
-part_text digits p q part = probability_text p q.formula q.given ++ (codes "\n" ++ answer_text digits part.answer)
+abbrev pub part_text : ℕ → Parts → Query → QueryPart → Option Reached → List ℕ
+part_text digits p q part r = probability_text p q.formula q.given ++ (codes "\n" ++ answer_text digits part.answer r)
 
--- the texts of pairs, as far as both lists go
-abbrev pub paired_text : {A B : Type 0} → (A → B → List ℕ) → List A → List B → List ℕ
-paired_text text [] ys = []
-paired_text text (x ∷ xs) [] = []
-paired_text text (x ∷ xs) (y ∷ ys) = text x y ++ paired_text text xs ys
-
--- the queries, each with the answer to it
-abbrev pub parts_text : ℕ → Parts → List Query → List QueryPart → List ℕ
-parts_text digits p queries parts = paired_text (part_text digits p) queries parts
-
--- the queries of a problem, each with the answer to it
-abbrev pub queries_text : ℕ → Parts → List QueryPart → List ℕ
-queries_text digits p parts = parts_text digits p p.queries parts
+-- the queries, each with the answer to it and what is reached of it, as far as all three lists go
+abbrev pub parts_text : ℕ → Parts → List Query → List QueryPart → List (Option Reached) → List ℕ
+parts_text digits p [] parts rs = []
+parts_text digits p (q ∷ qs) [] rs = []
+parts_text digits p (q ∷ qs) (part ∷ parts) [] = []
+parts_text digits p (q ∷ qs) (part ∷ parts) (r ∷ rs) = part_text digits p q part r ++ parts_text digits p qs parts rs
 
 -- the verdict
 abbrev pub verdict_text : Verdict → List ℕ
@@ -116,6 +119,6 @@ verdict_text (Consistent m) = codes "consistent: some distribution meets all sen
 verdict_text (Inconsistent d) = codes "inconsistent: no distribution meets all sentences\n"
 verdict_text (Open c) = codes "open: whether a distribution meets all sentences isn't known; " ++ (cause_text c ++ codes "\n")
 
--- what is written of an answer to a problem: the verdict, and each query with the answer to it
-unfoldable pub spoken : ℕ → Parts → Answer → List ℕ
-spoken digits p a = verdict_text a.verdict ++ parts_text digits p p.queries a.parts
+-- what is written of an answer to a problem: the verdict, and each query with the answer to it and what is reached of it
+unfoldable pub spoken : ℕ → Parts → Answer → List (Option Reached) → List ℕ
+spoken digits p a rs = verdict_text a.verdict ++ parts_text digits p p.queries a.parts rs

@@ -4,12 +4,13 @@ ghost use Rattle.ps_canonical.specs.Lines.{Adds};
 ghost use Rattle.ps_frac.specs.declared.limits.TheConstants.{MOST_DIGITS};
 ghost use Rattle.ps_spoken.specs.Numbers.{Says};
 ghost use Rattle.ps_spoken.specs.Spoken.{between_text, lower_text, upper_text};
-ghost use Rattle.ps_spoken.specs.Spoken.{bounds_text, decimals_text};
+ghost use Rattle.ps_spoken.specs.Spoken.{bounds_text, decimals_text, stopped_text};
 ghost use Rattle.ps_spoken.specs.Spoken.{one_value_text, sides_text, two_values_text};
 
 use crate::cause::write_cause;
 use crate::numbers::{append, fraction, high, low};
-use ps_answer::SideAnswer;
+use crate::reached::{Reached, write_lower_between, write_upper_between};
+use ps_answer::{Cause, SideAnswer};
 use ps_frac::Fraction;
 use ps_io::NoMemory;
 use std::cmp::Ordering;
@@ -87,11 +88,26 @@ fn between(
     }
 }
 
-// Writes a lower bound, or why there is none.
-fn lower_side(out: &mut Vec<u8>, side: &SideAnswer, digits: u32) -> Result<(), NoMemory>
+// Writes what stopped a side.
+fn write_stop(out: &mut Vec<u8>, cause: &Cause) -> Result<(), NoMemory>
+    ensures { OnOk result (Adds out.old.items out.new.items (stopped_text cause.now)) }
+{
+    append(out, b": ")?;
+    write_cause(out, cause)?;
+    append(out, b"\n")
+}
+
+// Writes a lower bound, or between which numbers it lies, and what stopped it.
+fn lower_side(
+    out: &mut Vec<u8>,
+    side: &SideAnswer,
+    reached: &Option<Reached>,
+    digits: u32,
+) -> Result<(), NoMemory>
     requires some { 0 < digits }
     requires few { digits ≤ MOST_DIGITS }
-    ensures { OnOk result (Adds out.old.items out.new.items (lower_text digits side.now)) }
+    ensures { OnOk result
+        (Adds out.old.items out.new.items (lower_text digits side.now reached.now)) }
 {
     match side {
         SideAnswer::Bound { value, .. } => {
@@ -102,18 +118,24 @@ fn lower_side(out: &mut Vec<u8>, side: &SideAnswer, digits: u32) -> Result<(), N
             append(out, b")\n")
         }
         SideAnswer::Open(cause) => {
-            append(out, b"  no lower bound yet: ")?;
-            write_cause(out, cause)?;
-            append(out, b"\n")
+            append(out, b"  ")?;
+            write_lower_between(out, reached, digits)?;
+            write_stop(out, cause)
         }
     }
 }
 
-// Writes an upper bound, or why there is none.
-fn upper_side(out: &mut Vec<u8>, side: &SideAnswer, digits: u32) -> Result<(), NoMemory>
+// Writes an upper bound, or between which numbers it lies, and what stopped it.
+fn upper_side(
+    out: &mut Vec<u8>,
+    side: &SideAnswer,
+    reached: &Option<Reached>,
+    digits: u32,
+) -> Result<(), NoMemory>
     requires some { 0 < digits }
     requires few { digits ≤ MOST_DIGITS }
-    ensures { OnOk result (Adds out.old.items out.new.items (upper_text digits side.now)) }
+    ensures { OnOk result
+        (Adds out.old.items out.new.items (upper_text digits side.now reached.now)) }
 {
     match side {
         SideAnswer::Bound { value, .. } => {
@@ -124,9 +146,9 @@ fn upper_side(out: &mut Vec<u8>, side: &SideAnswer, digits: u32) -> Result<(), N
             append(out, b")\n")
         }
         SideAnswer::Open(cause) => {
-            append(out, b"  no upper bound yet: ")?;
-            write_cause(out, cause)?;
-            append(out, b"\n")
+            append(out, b"  ")?;
+            write_upper_between(out, reached, digits)?;
+            write_stop(out, cause)
         }
     }
 }
@@ -136,34 +158,37 @@ fn sides(
     out: &mut Vec<u8>,
     lower: &SideAnswer,
     upper: &SideAnswer,
+    reached: &Option<Reached>,
     digits: u32,
 ) -> Result<(), NoMemory>
     requires some { 0 < digits }
     requires few { digits ≤ MOST_DIGITS }
     ensures { OnOk result (Adds out.old.items out.new.items
-        (sides_text digits lower.now upper.now)) }
+        (sides_text digits lower.now upper.now reached.now)) }
 {
-    lower_side(out, lower, digits)?;
-    upper_side(out, upper, digits)
+    lower_side(out, lower, reached, digits)?;
+    upper_side(out, upper, reached, digits)
 }
 
-/// Writes the bounds of a query: both in one line, or each side with what stopped it.
+/// Writes the bounds of a query: both in one line, or each side, and of one that is open between
+/// which numbers it lies and what stopped it.
 #[tactic(auto, using(crate::proofs::Sides::open_lower, crate::proofs::Sides::open_upper))]
 pub fn write_bounds(
     out: &mut Vec<u8>,
     lower: &SideAnswer,
     upper: &SideAnswer,
+    reached: &Option<Reached>,
     digits: u32,
 ) -> Result<(), NoMemory>
     requires some { 0 < digits }
     requires few { digits ≤ MOST_DIGITS }
     ensures { OnOk result (Adds out.old.items out.new.items
-        (bounds_text digits lower.now upper.now)) }
+        (bounds_text digits lower.now upper.now reached.now)) }
 {
     match lower {
-        SideAnswer::Open(_) => sides(out, lower, upper, digits),
+        SideAnswer::Open(_) => sides(out, lower, upper, reached, digits),
         SideAnswer::Bound { value: least, .. } => match upper {
-            SideAnswer::Open(_) => sides(out, lower, upper, digits),
+            SideAnswer::Open(_) => sides(out, lower, upper, reached, digits),
             SideAnswer::Bound { value: most, .. } => between(out, least, most, digits),
         },
     }

@@ -3,11 +3,13 @@ ghost use Rattle.std.specs.Prelude.{◌<◌, ◌≤◌};
 ghost use Rattle.ps_spoken.specs.Numbers.{Says};
 ghost use Rattle.ps_frac.specs.declared.limits.TheConstants.{MOST_DIGITS};
 ghost use Rattle.ps_spoken.specs.Bounds.{bounds_members, exact_text, lower_object};
-ghost use Rattle.ps_spoken.specs.Bounds.{open_object, sides_members};
-ghost use Rattle.ps_spoken.specs.Bounds.{status_text, upper_object};
+ghost use Rattle.ps_spoken.specs.Bounds.{greatest_object, least_object, open_lower, open_members};
+ghost use Rattle.ps_spoken.specs.Bounds.{open_sides, open_upper, sides_members};
+ghost use Rattle.ps_spoken.specs.Bounds.{status_text, stopped_object, upper_object};
 
 use crate::cause::write_cause;
 use crate::numbers::{append, fraction, high, low};
+use crate::reached::Reached;
 use ps_answer::{Cause, SideAnswer};
 use ps_frac::Fraction;
 use ps_io::NoMemory;
@@ -23,21 +25,108 @@ fn write_exact(out: &mut Vec<u8>, value: &Fraction) -> Result<(), NoMemory>
     append(out, b"\",\"decimal\":\"")
 }
 
-// Writes the object of a side that is open.
-fn write_open(out: &mut Vec<u8>, cause: &Cause) -> Result<(), NoMemory>
-    ensures { Says result out.old.items out.new.items (open_object cause.now) }
+// Writes why a side is open, up to what is known of it.
+#[tactic(auto, unfolding(crate::specs::Bounds::stopped_object))]
+fn write_stopped(out: &mut Vec<u8>, cause: &Cause) -> Result<(), NoMemory>
+    ensures { Says result out.old.items out.new.items (stopped_object cause.now) }
 {
     append(out, b"{\"exact\":null,\"decimal\":null,\"why\":\"")?;
     write_cause(out, cause)?;
-    append(out, b"\"}")
+    append(out, b"\",\"proved\":\"")
+}
+
+// Writes the least value that is reached, or null.
+#[tactic(auto, unfolding(crate::specs::Bounds::least_object))]
+fn write_least(
+    out: &mut Vec<u8>,
+    reached: &Option<Reached>,
+    digits: u32,
+) -> Result<(), NoMemory>
+    requires some { 0 < digits }
+    requires few { digits ≤ MOST_DIGITS }
+    ensures { Says result out.old.items out.new.items (least_object digits reached.now) }
+{
+    match reached {
+        Some(known) => {
+            write_exact(out, &known.least)?;
+            high(out, &known.least, digits)?;
+            append(out, b"\"}")
+        }
+        None => append(out, b"null"),
+    }
+}
+
+// Writes the greatest value that is reached, or null.
+#[tactic(auto, unfolding(crate::specs::Bounds::greatest_object))]
+fn write_greatest(
+    out: &mut Vec<u8>,
+    reached: &Option<Reached>,
+    digits: u32,
+) -> Result<(), NoMemory>
+    requires some { 0 < digits }
+    requires few { digits ≤ MOST_DIGITS }
+    ensures { Says result out.old.items out.new.items (greatest_object digits reached.now) }
+{
+    match reached {
+        Some(known) => {
+            write_exact(out, &known.greatest)?;
+            low(out, &known.greatest, digits)?;
+            append(out, b"\"}")
+        }
+        None => append(out, b"null"),
+    }
+}
+
+// Writes the object of a lower side that is open.
+#[tactic(auto, unfolding(crate::specs::Bounds::open_lower))]
+fn write_open_lower(
+    out: &mut Vec<u8>,
+    cause: &Cause,
+    reached: &Option<Reached>,
+    digits: u32,
+) -> Result<(), NoMemory>
+    requires some { 0 < digits }
+    requires few { digits ≤ MOST_DIGITS }
+    ensures { Says result out.old.items out.new.items
+        (open_lower digits cause.now reached.now) }
+{
+    write_stopped(out, cause)?;
+    append(out, b"0\",\"reached\":")?;
+    write_least(out, reached, digits)?;
+    append(out, b"}")
+}
+
+// Writes the object of an upper side that is open.
+#[tactic(auto, unfolding(crate::specs::Bounds::open_upper))]
+fn write_open_upper(
+    out: &mut Vec<u8>,
+    cause: &Cause,
+    reached: &Option<Reached>,
+    digits: u32,
+) -> Result<(), NoMemory>
+    requires some { 0 < digits }
+    requires few { digits ≤ MOST_DIGITS }
+    ensures { Says result out.old.items out.new.items
+        (open_upper digits cause.now reached.now) }
+{
+    write_stopped(out, cause)?;
+    append(out, b"1\",\"reached\":")?;
+    write_greatest(out, reached, digits)?;
+    append(out, b"}")
 }
 
 // Writes the object of a lower bound.
 #[tactic(auto, unfolding(crate::specs::Bounds::lower_object))]
-fn write_lower(out: &mut Vec<u8>, side: &SideAnswer, digits: u32) -> Result<(), NoMemory>
+fn write_lower(
+    out: &mut Vec<u8>,
+    side: &SideAnswer,
+    reached: &Option<Reached>,
+    digits: u32,
+) -> Result<(), NoMemory>
     requires some { 0 < digits }
     requires few { digits ≤ MOST_DIGITS }
-    ensures { Says result out.old.items out.new.items (lower_object digits side.now) }
+    ensures { Says result out.old.items out.new.items
+        (lower_object digits side.now reached.now) }
 {
     match side {
         SideAnswer::Bound { value, .. } => {
@@ -45,16 +134,22 @@ fn write_lower(out: &mut Vec<u8>, side: &SideAnswer, digits: u32) -> Result<(), 
             low(out, value, digits)?;
             append(out, b"\",\"why\":null}")
         }
-        SideAnswer::Open(cause) => write_open(out, cause),
+        SideAnswer::Open(cause) => write_open_lower(out, cause, reached, digits),
     }
 }
 
 // Writes the object of an upper bound.
 #[tactic(auto, unfolding(crate::specs::Bounds::upper_object))]
-fn write_upper(out: &mut Vec<u8>, side: &SideAnswer, digits: u32) -> Result<(), NoMemory>
+fn write_upper(
+    out: &mut Vec<u8>,
+    side: &SideAnswer,
+    reached: &Option<Reached>,
+    digits: u32,
+) -> Result<(), NoMemory>
     requires some { 0 < digits }
     requires few { digits ≤ MOST_DIGITS }
-    ensures { Says result out.old.items out.new.items (upper_object digits side.now) }
+    ensures { Says result out.old.items out.new.items
+        (upper_object digits side.now reached.now) }
 {
     match side {
         SideAnswer::Bound { value, .. } => {
@@ -62,7 +157,7 @@ fn write_upper(out: &mut Vec<u8>, side: &SideAnswer, digits: u32) -> Result<(), 
             high(out, value, digits)?;
             append(out, b"\",\"why\":null}")
         }
-        SideAnswer::Open(cause) => write_open(out, cause),
+        SideAnswer::Open(cause) => write_open_upper(out, cause, reached, digits),
     }
 }
 
@@ -88,15 +183,17 @@ fn write_sides(
     out: &mut Vec<u8>,
     lower: &SideAnswer,
     upper: &SideAnswer,
+    reached: &Option<Reached>,
     digits: u32,
 ) -> Result<(), NoMemory>
     requires some { 0 < digits }
     requires few { digits ≤ MOST_DIGITS }
-    ensures { Says result out.old.items out.new.items (sides_members digits lower.now upper.now) }
+    ensures { Says result out.old.items out.new.items
+        (sides_members digits lower.now upper.now reached.now) }
 {
-    write_lower(out, lower, digits)?;
+    write_lower(out, lower, reached, digits)?;
     append(out, b",\"upper\":")?;
-    write_upper(out, upper, digits)?;
+    write_upper(out, upper, reached, digits)?;
     append(out, b"}")
 }
 
@@ -105,13 +202,53 @@ pub fn write_bounds(
     out: &mut Vec<u8>,
     lower: &SideAnswer,
     upper: &SideAnswer,
+    reached: &Option<Reached>,
     digits: u32,
 ) -> Result<(), NoMemory>
     requires some { 0 < digits }
     requires few { digits ≤ MOST_DIGITS }
-    ensures { Says result out.old.items out.new.items (bounds_members digits lower.now upper.now) }
+    ensures { Says result out.old.items out.new.items
+        (bounds_members digits lower.now upper.now reached.now) }
 {
     write_status(out, lower, upper)?;
     append(out, b"\",\"why\":null,\"lower\":")?;
-    write_sides(out, lower, upper, digits)
+    write_sides(out, lower, upper, reached, digits)
+}
+
+// Writes both sides of a query that is open.
+#[tactic(auto, unfolding(crate::specs::Bounds::open_sides))]
+fn write_open_sides(
+    out: &mut Vec<u8>,
+    cause: &Cause,
+    reached: &Option<Reached>,
+    digits: u32,
+) -> Result<(), NoMemory>
+    requires some { 0 < digits }
+    requires few { digits ≤ MOST_DIGITS }
+    ensures { Says result out.old.items out.new.items
+        (open_sides digits cause.now reached.now) }
+{
+    write_open_lower(out, cause, reached, digits)?;
+    append(out, b",\"upper\":")?;
+    write_open_upper(out, cause, reached, digits)?;
+    append(out, b"}")
+}
+
+/// Writes the members of a query that is open, from its status on.
+#[tactic(auto, unfolding(crate::specs::Bounds::open_members))]
+pub fn write_open(
+    out: &mut Vec<u8>,
+    cause: &Cause,
+    reached: &Option<Reached>,
+    digits: u32,
+) -> Result<(), NoMemory>
+    requires some { 0 < digits }
+    requires few { digits ≤ MOST_DIGITS }
+    ensures { Says result out.old.items out.new.items
+        (open_members digits cause.now reached.now) }
+{
+    append(out, b"open\",\"why\":\"")?;
+    write_cause(out, cause)?;
+    append(out, b"\",\"lower\":")?;
+    write_open_sides(out, cause, reached, digits)
 }

@@ -1,7 +1,7 @@
 //! An answer in words and numbers for people: each query by its own text, with its bounds as they
-//! are and as decimals rounded outward, and where a part is open, what stopped it; and sentences
-//! that clash, each by its number, its line and its text, and what is left without it. The same as
-//! an object of JSON, on one line, for programs.
+//! are and as decimals rounded outward, and where a part is open, what stopped it, and between which
+//! numbers its bounds lie; and sentences that clash, each by its number, its line and its text, and
+//! what is left without it. The same as an object of JSON, on one line, for programs.
 #![tactic(auto)]
 
 mod bounds;
@@ -17,6 +17,7 @@ mod object;
 mod parts;
 mod queries;
 mod quiet;
+mod reached;
 mod rests;
 mod spoken;
 mod strings;
@@ -29,5 +30,6 @@ pub use numbers::number;
 pub use object::{Told, write_object};
 pub use parts::write_part;
 pub use quiet::{write_query_values, write_verdict_value};
-pub use spoken::{write_answer, write_verdict};
+pub use reached::Reached;
+pub use spoken::write_verdict;
 pub use warned::Warned;

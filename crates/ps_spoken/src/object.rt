@@ -11,6 +11,7 @@ use crate::counts::write_counts;
 use crate::json_clash::write_clash;
 use crate::numbers::{append, number};
 use crate::queries::write_queries;
+use crate::reached::Reached;
 use crate::strings::write_string;
 use crate::warned::{Warned, write_warnings};
 use ps_answer::{Answer, Cause, Verdict};
@@ -25,6 +26,8 @@ pub struct Told<'a> {
     pub digits: u32,
     /// The name of the problem's file.
     pub file: &'a [u8],
+    /// What is reached of each query that is open.
+    pub reached: &'a [Option<Reached>],
     /// Which sentences clash, where some do.
     pub clash: &'a Option<Clash>,
     /// The lines on which the sentences begin.
@@ -87,8 +90,8 @@ fn write_end(
 }
 
 /// Writes the object of an answer to a problem behind what was written, on one line: the verdict,
-/// each query by its own text with its bounds, exact and as decimals rounded outward, which
-/// sentences clash, counts, warnings, and the status.
+/// each query by its own text with its bounds, exact and as decimals rounded outward, or between
+/// which numbers they lie, which sentences clash, counts, warnings, and the status.
 #[tactic(auto, unfolding(crate::specs::Objects::object))]
 pub fn write_object(
     alloc: Global,
@@ -106,6 +109,7 @@ pub fn write_object(
     write_string(out, told.file)?;
     write_verdict(out, &answer.verdict)?;
     append(out, b",\"queries\":[")?;
-    write_queries(alloc, out, problem, answer.parts.as_slice(), told.digits)?;
+    let parts = answer.parts.as_slice();
+    write_queries(alloc, out, problem, parts, told.reached, told.digits)?;
     write_end(alloc, out, problem, told)
 }

@@ -1,16 +1,12 @@
-//! An answer, for people.
-ghost use Rattle.std.specs.Prelude.{◌<◌, ◌≤◌, OnOk};
+//! The verdict, for people.
+ghost use Rattle.std.specs.Prelude.{OnOk};
 ghost use Rattle.ps_canonical.specs.Lines.{Adds};
-ghost use Rattle.ps_frac.specs.declared.limits.TheConstants.{MOST_DIGITS};
-ghost use Rattle.ps_spoken.specs.Spoken.{spoken, verdict_text};
+ghost use Rattle.ps_spoken.specs.Spoken.{verdict_text};
 
 use crate::cause::write_cause;
 use crate::numbers::append;
-use crate::parts::write_parts;
-use ps_answer::{Answer, Verdict};
+use ps_answer::Verdict;
 use ps_io::NoMemory;
-use ps_problem::Problem;
-use std::alloc::Global;
 
 /// Writes the verdict.
 pub fn write_verdict(out: &mut Vec<u8>, verdict: &Verdict) -> Result<(), NoMemory>
@@ -32,24 +28,4 @@ pub fn write_verdict(out: &mut Vec<u8>, verdict: &Verdict) -> Result<(), NoMemor
             append(out, b"\n")
         }
     }
-}
-
-/// Writes an answer to a problem behind what was written: the verdict in words, and each query by
-/// its own text with its bounds, exact and as decimals of so many digits rounded outward, or with
-/// what stopped it.
-#[tactic(auto, unfolding(crate::specs::Spoken::spoken))]
-pub fn write_answer(
-    alloc: Global,
-    out: &mut Vec<u8>,
-    problem: &Problem,
-    answer: &Answer,
-    digits: u32,
-) -> Result<(), NoMemory>
-    requires some { 0 < digits }
-    requires few { digits ≤ MOST_DIGITS }
-    ensures { OnOk result (Adds out.old.items out.new.items
-        (spoken digits problem.now answer.now)) }
-{
-    write_verdict(out, &answer.verdict)?;
-    write_parts(alloc, out, problem, answer.parts.as_slice(), digits)
 }

@@ -2,8 +2,36 @@
 use super::rows::{CLASH, PROBLEM, Row, WARNING};
 use ps_ask::{Status, Style};
 
+// In each distribution that meets the sentences the first query is 1/6, and the condition of the
+// second has no weight.
+const SETTLED: &[u8] = b"psat 1; P(a) = 1/3; P(b given a) = 1/2;
+query P(a & b); query P(b given a & !a); end;";
+
+const SETTLED_OBJECT: &str = concat!(
+    "{\"file\":\"f\",\"verdict\":\"consistent\",\"why\":null,\"queries\":[",
+    "{\"query\":\"P(a & b)\",\"status\":\"open\",",
+    "\"why\":\"not finished within the time limit; allow more by --time-limit\",",
+    "\"lower\":{\"exact\":null,\"decimal\":null,",
+    "\"why\":\"not finished within the time limit; allow more by --time-limit\",",
+    "\"proved\":\"0\",\"reached\":{\"exact\":\"1/6\",\"decimal\":\"0.167\"}},",
+    "\"upper\":{\"exact\":null,\"decimal\":null,",
+    "\"why\":\"not finished within the time limit; allow more by --time-limit\",",
+    "\"proved\":\"1\",\"reached\":{\"exact\":\"1/6\",\"decimal\":\"0.166\"}}},",
+    "{\"query\":\"P(b given a & !a)\",\"status\":\"open\",",
+    "\"why\":\"not finished within the time limit; allow more by --time-limit\",",
+    "\"lower\":{\"exact\":null,\"decimal\":null,",
+    "\"why\":\"not finished within the time limit; allow more by --time-limit\",",
+    "\"proved\":\"0\",\"reached\":null},",
+    "\"upper\":{\"exact\":null,\"decimal\":null,",
+    "\"why\":\"not finished within the time limit; allow more by --time-limit\",",
+    "\"proved\":\"1\",\"reached\":null}}],",
+    "\"clash\":null,",
+    "\"counts\":{\"atoms\":2,\"sentences\":2,\"bounds\":2,\"queries\":2,\"open\":2},",
+    "\"warnings\":[],\"status\":4}\n",
+);
+
 // What is shown where time is over once it was asked so often.
-pub const LATE: [(u32, Row); 4] = [
+pub const LATE: [(u32, Row); 5] = [
     (
         0,
         Row {
@@ -18,19 +46,29 @@ pub const LATE: [(u32, Row); 4] = [
     (
         1,
         Row {
-            text: PROBLEM,
+            text: SETTLED,
             style: Style::Words,
             shown: "consistent: some distribution meets all sentences
-P(wet)
+P(a & b)
   open: not finished within the time limit; allow more by --time-limit
-P(rain & wet)
+  lower bound between 0 (proved) and 0.167 (reached)
+  upper bound between 0.166 (reached) and 1 (proved)
+P(b given a & !a)
   open: not finished within the time limit; allow more by --time-limit
-P(dry given rain & !rain)
-  open: not finished within the time limit; allow more by --time-limit
-P(rain)
-  open: not finished within the time limit; allow more by --time-limit
+  lower bound at least 0 (proved)
+  upper bound at most 1 (proved)
 ",
-            noted: WARNING,
+            noted: "",
+            status: Status::Late,
+        },
+    ),
+    (
+        1,
+        Row {
+            text: SETTLED,
+            style: Style::Json,
+            shown: SETTLED_OBJECT,
+            noted: "",
             status: Status::Late,
         },
     ),

@@ -3,9 +3,9 @@ use Rattle.ps_ask.proofs.EndLaws.{some_ended}
 use Rattle.ps_ask.proofs.FrontLaws.{begun_whole}
 use Rattle.ps_ask.proofs.answering.reply_to_problem.Goals as goal
 
-pub returns-in-Err-show_last-clause-ended : goal.returns-in-Err-show_last-clause-ended
-returns-in-Err-show_last-clause-ended g c =
+pub returns-in-Ok-clause-ended : goal.returns-in-Ok-clause-ended
+returns-in-Ok-clause-ended g c =
     let s = c.args.settings in
     let p = c.args.problem.now in
-    some_ended (IsBegunText s p) (g.O.Sink.written c.args.sink.now) (g.O.Sink.written c.show_front.new.sink) (begun_text s.style s.digits p c.in-Ok.answer)
-    (begun_whole s p c.in-Ok.answer c.in-Ok.ensures.whole) c.in-Ok.ensures.wrote
+    some_ended (IsBegunText s p) (g.O.Sink.written c.args.sink.now) (g.O.Sink.written c.show_front.new.sink) (begun_text s.style s.digits p c.in-Ok.answer c.in-Ok.reached)
+    (begun_whole s p c.in-Ok.answer c.in-Ok.reached c.in-Ok.ensures.whole c.in-Ok.ensures.reached) c.in-Ok.ensures.wrote

@@ -4,6 +4,9 @@ use Rattle.ps_ask.proofs.FrontLaws.{short_in_time, whole}
 use Rattle.ps_ask.proofs.StepLaws.{answer_ended, answer_wrote, verdict_ended}
 use Rattle.ps_ask.proofs.fronts.show_answer.Goals as goal
 
+pub show_parts_under-requires-clause-right : goal.show_parts_under-requires-clause-right
+show_parts_under-requires-clause-right g c = c.in-Ok.ensures.judged.right
+
 pub returns-in-Ok-show_parts_under-clause-whole : goal.returns-in-Ok-show_parts_under-clause-whole
 returns-in-Ok-show_parts_under-clause-whole g c =
     let are : AreParts c.args.trials.now = search rules in
@@ -11,7 +14,7 @@ returns-in-Ok-show_parts_under-clause-whole g c =
 
 pub returns-in-Ok-show_parts_under-clause-wrote : goal.returns-in-Ok-show_parts_under-clause-wrote
 returns-in-Ok-show_parts_under-clause-wrote g c =
-    answer_wrote c.args.settings c.args.trials.now c.in-Ok.verdict c.in-Ok.first c.in-Ok-show_parts_under.parts (g.O.Sink.written c.args.sink.now)
+    answer_wrote c.args.settings c.args.trials.now c.in-Ok.verdict c.in-Ok.first c.in-Ok-show_parts_under.parts c.in-Ok-show_parts_under.reached (g.O.Sink.written c.args.sink.now)
     (g.O.Sink.written c.show_verdict.new.sink) (g.O.Sink.written c.show_parts_under.new.sink) c.in-Ok.ensures.wrote c.in-Ok-show_parts_under.ensures.wrote
 
 pub returns-in-Ok-show_parts_under-clause-short : goal.returns-in-Ok-show_parts_under-clause-short

@@ -5,14 +5,14 @@ use Rattle.ps_ask.specs.Fronts.{part_piece, parts_pieces}
 use Rattle.ps_ask.specs.Replies.{ArePiecesFor, IsPiece}
 use Rattle.ps_ask.specs.Rounds.{IsPending}
 use Rattle.ps_ask.proofs.EndLaws.{ended_after, some_ended}
-use Rattle.ps_ask.proofs.FrontLaws.{parts_begin, parts_next, pieces_begun, pieces_more, text_next}
+use Rattle.ps_ask.proofs.FrontLaws.{parts_begin, parts_end, parts_next, pieces_begun, pieces_more, text_next, told_end}
 use Rattle.ps_ask.proofs.StepLaws.{nothing_shown}
 use Rattle.ps_ask.proofs.fronts.show_parts.Goals as goal
 
 pub loop-query-init : goal.loop-query-init
-loop-query-init g c = rw c.new-parts.ensures (record {
+loop-query-init g c = rw (c.new-parts.ensures, c.new-reached.ensures) (record {
   parts = parts_begin c.args.settings c.args.trials.now;
-  written = nothing_shown c.args.settings.style c.args.settings.digits c.args.trials.now (g.O.Sink.written c.args.sink.now);
+  written = nothing_shown c.args.settings.style c.args.settings.digits c.args.trials.now [] (g.O.Sink.written c.args.sink.now);
   rounds = c.in-Ok.ensures c.args.settings c.args.trials.now;
   faults = refl;
 })
@@ -23,14 +23,17 @@ returns-then-is_err-clause-ended g c =
     let p = c.args.trials.now in
     let i = c.loop-query.query-index in
     let parts = c.loop-query.parts in
+    let rs = c.loop-query.reached in
+    let part = c.in-Ok-show_part.part in
+    let told = c.in-Ok-show_part.told in
     let same : c.as_slice-queries.result.now ≡ p.queries = search rules in
     let lt : i < length p.queries = subst (λ (qs : List Query). i < length qs) same c.loop-query-test.true in
     let q = get_or c.as_slice-queries.result.now i _ in
-    let pieces = parts_pieces s.style s.digits p parts in
-    let piece = part_piece s.style s.digits p q c.in-Ok-show_part.part in
+    let pieces = parts_pieces s.style s.digits p parts rs in
+    let piece = part_piece s.style s.digits p q part told in
     some_ended (ArePiecesFor s p p.queries) (g.O.Sink.written c.args.sink.now) (g.O.Sink.written c.show_part.new.sink) (pieces ++ piece)
-    (pieces_more s p i parts q _ c.loop-query.invariant.parts (ap (λ (qs : List Query). get_or qs i _) same) lt piece
-    (record { part = c.in-Ok-show_part.part; shown = c.in-Ok-show_part.ensures.judged; is = refl }))
+    (pieces_more s p i parts rs q _ c.loop-query.invariant.parts (ap (λ (qs : List Query). get_or qs i _) same) lt piece
+    (record { part = part; reached = told; shown = c.in-Ok-show_part.ensures.judged; told = c.in-Ok-show_part.ensures.reached; is = refl }))
     (appends-then (g.O.Sink.written c.args.sink.now) (g.O.Sink.written c.loop-query.sink) (g.O.Sink.written c.show_part.new.sink) pieces piece
     c.loop-query.invariant.written c.in-Ok-show_part.ensures.wrote)
 
@@ -40,13 +43,14 @@ returns-in-Err-clause-ended g c =
     let p = c.args.trials.now in
     let i = c.loop-query.query-index in
     let parts = c.loop-query.parts in
+    let rs = c.loop-query.reached in
     let same : c.as_slice-queries.result.now ≡ p.queries = search rules in
     let lt : i < length p.queries = subst (λ (qs : List Query). i < length qs) same c.loop-query-test.true in
     let q = get_or c.as_slice-queries.result.now i _ in
     ended_after (IsPiece s p q) (ArePiecesFor s p p.queries) c.in-Err.error (g.O.Sink.written c.args.sink.now) (g.O.Sink.written c.loop-query.sink)
-    (g.O.Sink.written c.show_part.new.sink) (parts_pieces s.style s.digits p parts) c.loop-query.invariant.written
-    (pieces_begun s p i parts c.loop-query.invariant.parts)
-    (pieces_more s p i parts q _ c.loop-query.invariant.parts (ap (λ (qs : List Query). get_or qs i _) same) lt) c.in-Err.ensures.ended
+    (g.O.Sink.written c.show_part.new.sink) (parts_pieces s.style s.digits p parts rs) c.loop-query.invariant.written
+    (pieces_begun s p i parts rs c.loop-query.invariant.parts)
+    (pieces_more s p i parts rs q _ c.loop-query.invariant.parts (ap (λ (qs : List Query). get_or qs i _) same) lt) c.in-Err.ensures.ended
 
 pub loop-query-preserved : goal.loop-query-preserved
 loop-query-preserved g c =
@@ -54,17 +58,20 @@ loop-query-preserved g c =
     let p = c.args.trials.now in
     let i = c.loop-query.query-index in
     let parts = c.loop-query.parts in
+    let rs = c.loop-query.reached in
     let part = c.in-Ok-show_part.part in
+    let told = c.in-Ok-show_part.told in
     let same : c.as_slice-queries.result.now ≡ p.queries = search rules in
     let lt : i < length p.queries = subst (λ (qs : List Query). i < length qs) same c.loop-query-test.true in
     let q = get_or c.as_slice-queries.result.now i _ in
     let there = ap (λ (qs : List Query). get_or qs i _) same in
-    let pushed : c.push.new.self ≡ parts ++ part ∷ [] = search rules in
-    rw pushed (record {
-      parts = parts_next s p i parts q _ c.loop-query.invariant.parts there lt part c.in-Ok-show_part.ensures.judged;
-      written = rw (text_next s p i parts q _ c.loop-query.invariant.parts there lt part)
+    let pushed : c.add_part.new.parts ≡ parts ++ part ∷ [] = search rules in
+    let noted : c.add_part.new.reached ≡ rs ++ told ∷ [] = search rules in
+    rw (pushed, noted) (record {
+      parts = parts_next s p i parts rs q _ c.loop-query.invariant.parts there lt part told c.in-Ok-show_part.ensures.judged c.in-Ok-show_part.ensures.reached;
+      written = rw (text_next s p i parts rs q _ c.loop-query.invariant.parts there lt part told)
           (appends-then (g.O.Sink.written c.args.sink.now) (g.O.Sink.written c.loop-query.sink) (g.O.Sink.written c.show_part.new.sink)
-          (parts_pieces s.style s.digits p parts) (part_piece s.style s.digits p q part) c.loop-query.invariant.written c.in-Ok-show_part.ensures.wrote);
+          (parts_pieces s.style s.digits p parts rs) (part_piece s.style s.digits p q part told) c.loop-query.invariant.written c.in-Ok-show_part.ensures.wrote);
       rounds = c.in-Ok-settle_query.ensures.rounds;
       faults = c.in-Ok-show_part.ensures.faults ∙ c.loop-query.invariant.faults;
     })

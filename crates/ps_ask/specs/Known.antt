@@ -1,0 +1,26 @@
+-- The values that the bounds of a query reach.
+use Rattle.std.specs.Prelude.{◌≡◌, Option, length}
+use Rattle.ps_meaning.specs.Rational.{Rational}
+use Rattle.ps_problem.specs.declared.query.Query.{Query}
+use Rattle.ps_problem.specs.Problems.{Parts, bounds_of}
+use Rattle.ps_answer.specs.declared.answer.SideAnswer.{SideAnswer}
+use Rattle.ps_answer.specs.declared.answer.SideAnswer.TheVariants.{Bound, Open}
+use Rattle.ps_answer.specs.declared.answer.QueryAnswer.{QueryAnswer}
+use Rattle.ps_claims.specs.Answers.{IsRightPart}
+use Rattle.ps_claims.specs.Validity.{query_of}
+use Rattle.ps_valid.specs.Answers.{part_of}
+use Rattle.ps_spoken.specs.declared.reached.Reached.{Reached}
+use Rattle.ps_ask.specs.Reached.{IsReachedAsTold}
+
+-- the side is a bound at this value
+abbrev pub IsBoundAt : SideAnswer → Rational → Type 0
+IsBoundAt (Bound value m d) x = value ≡ x
+IsBoundAt (Open c) x = ⊥
+
+-- the answer to a query is right for a problem
+abbrev pub IsRightFor : Parts → Query → QueryAnswer → Type 0
+IsRightFor p q a = IsRightPart (length p.names) (bounds_of p) (query_of p.nodes q) (part_of a)
+
+-- of every problem and query: what is told with the bounds of a right answer is reached where what was told before is
+abbrev pub KeepsKnownSides : Option Reached → QueryAnswer → Option Reached → Type 0
+KeepsKnownSides old a new = (p : Parts) (q : Query) → IsRightFor p q a → IsReachedAsTold p q old → IsReachedAsTold p q new
