@@ -37,11 +37,7 @@ fn write_stopped(out: &mut Vec<u8>, cause: &Cause) -> Result<(), NoMemory>
 
 // Writes the least value that is reached, or null.
 #[tactic(auto, unfolding(crate::specs::Bounds::least_object))]
-fn write_least(
-    out: &mut Vec<u8>,
-    reached: &Option<Reached>,
-    digits: u32,
-) -> Result<(), NoMemory>
+fn write_least(out: &mut Vec<u8>, reached: &Option<Reached>, digits: u32) -> Result<(), NoMemory>
     requires some { 0 < digits }
     requires few { digits ≤ MOST_DIGITS }
     ensures { Says result out.old.items out.new.items (least_object digits reached.now) }
@@ -58,11 +54,7 @@ fn write_least(
 
 // Writes the greatest value that is reached, or null.
 #[tactic(auto, unfolding(crate::specs::Bounds::greatest_object))]
-fn write_greatest(
-    out: &mut Vec<u8>,
-    reached: &Option<Reached>,
-    digits: u32,
-) -> Result<(), NoMemory>
+fn write_greatest(out: &mut Vec<u8>, reached: &Option<Reached>, digits: u32) -> Result<(), NoMemory>
     requires some { 0 < digits }
     requires few { digits ≤ MOST_DIGITS }
     ensures { Says result out.old.items out.new.items (greatest_object digits reached.now) }

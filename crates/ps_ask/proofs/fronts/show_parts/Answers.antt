@@ -5,7 +5,7 @@ use Rattle.ps_ask.specs.Fronts.{part_piece, parts_pieces}
 use Rattle.ps_ask.specs.Replies.{ArePiecesFor, IsPiece}
 use Rattle.ps_ask.specs.Rounds.{IsPending}
 use Rattle.ps_ask.proofs.EndLaws.{ended_after, some_ended}
-use Rattle.ps_ask.proofs.FrontLaws.{parts_begin, parts_end, parts_next, pieces_begun, pieces_more, text_next, told_end}
+use Rattle.ps_ask.proofs.FrontLaws.{parts_begin, parts_next, pieces_begun, pieces_more, text_next}
 use Rattle.ps_ask.proofs.StepLaws.{nothing_shown}
 use Rattle.ps_ask.proofs.fronts.show_parts.Goals as goal
 
