@@ -10,7 +10,7 @@ Bounds are exact, as `fractions.Fraction`. The package calls the installed progr
 """
 from __future__ import annotations
 
-from .answers import Answer, Clash, ClashSentence, Query, Side, TextWarning
+from .answers import Answer, Clash, ClashSentence, Query, Reached, Side, TextWarning
 from .errors import (
     AnswerError,
     Fault,
@@ -36,6 +36,7 @@ __all__ = [
     "ProgramMissing",
     "PsatError",
     "Query",
+    "Reached",
     "Side",
     "TextError",
     "TextWarning",

@@ -23,17 +23,40 @@ def _one_of(words: Any, word: Any) -> Any:
 
 
 @dataclass(frozen=True)
+class Reached:
+    """A query's probability in some distribution that meets all sentences, and its decimal."""
+
+    exact: Fraction
+    decimal: str
+
+    @classmethod
+    def from_json(cls, reached: Mapping[str, Any]) -> Reached:
+        return cls(Fraction(reached["exact"]), reached["decimal"])
+
+
+@dataclass(frozen=True)
 class Side:
-    """One side of an interval: the exact bound and its decimal, or why it is open."""
+    """One side of an interval: the exact bound and its decimal, or why it is open.
+
+    A bound that is open lies between `proved`, which is 0 or 1, and `reached`, where that is known.
+    """
 
     exact: Fraction | None
     decimal: str | None
     why: str | None
+    proved: Fraction | None = None
+    reached: Reached | None = None
 
     @classmethod
     def from_json(cls, side: Mapping[str, Any]) -> Side:
-        exact = side["exact"]
-        return cls(None if exact is None else Fraction(exact), side["decimal"], side["why"])
+        exact, proved, reached = side["exact"], side.get("proved"), side.get("reached")
+        return cls(
+            None if exact is None else Fraction(exact),
+            side["decimal"],
+            side["why"],
+            None if proved is None else Fraction(proved),
+            reached and Reached.from_json(reached),
+        )
 
 
 @dataclass(frozen=True)
@@ -64,11 +87,10 @@ class Query:
     @property
     def reasons(self) -> tuple[str, ...]:
         """What left the query, or a side of it, open."""
+        if self.why:
+            return (self.why,)
         sides = {"lower bound": self.lower_side, "upper bound": self.upper_side}
-        own = (self.why,) if self.why else ()
-        return own + tuple(
-            f"{name}: {side.why}" for name, side in sides.items() if side and side.why
-        )
+        return tuple(f"{name}: {side.why}" for name, side in sides.items() if side and side.why)
 
 
 @dataclass(frozen=True)

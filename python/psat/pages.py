@@ -80,17 +80,31 @@ class Shown:
         return lines if lines[-1] else lines[:-1]
 
 
+def _open_words(query: Query) -> list[str]:
+    """Of each bound that is open, in words: on which side of a value that is reached it lies."""
+    low, high = query.lower_side, query.upper_side
+    words = []
+    if query.lower is None:
+        at = f", at most {low.reached.exact}" if low and low.reached else ""
+        words.append(f"the lower bound is open{at}")
+    if query.upper is None:
+        at = f", at least {high.reached.exact}" if high and high.reached else ""
+        words.append(f"the upper bound is open{at}")
+    return words
+
+
 def values_of(query: Query) -> str:
     """What is known of a query, in words and exact numbers."""
     low, high = query.lower, query.upper
     if query.status == "impossible":
         return "impossible: the sentences give the condition probability 0"
-    if query.status == "open" or (low is None and high is None):
-        return "open"
+    if low is None and high is None:
+        known = query.lower_side and query.lower_side.reached
+        return "; ".join(_open_words(query)) if known else "open"
     if low is None:
-        return f"at most {high}; the lower bound is open"
+        return "; ".join([f"at most {high}", *_open_words(query)])
     if high is None:
-        return f"at least {low}; the upper bound is open"
+        return "; ".join([f"at least {low}", *_open_words(query)])
     if low == high:
         return f"one value: {low}"
     if low == 0 and high == 1:

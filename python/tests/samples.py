@@ -17,6 +17,12 @@ def side(exact: str | None, decimal: str | None, why: str | None = None) -> dict
     return {"exact": exact, "decimal": decimal, "why": why}
 
 
+def open_side(why: str, proved: str, *reached: str) -> dict[str, Any]:
+    """A side that is open; `reached` are a value and its decimal, or nothing."""
+    told = dict(zip(("exact", "decimal"), reached)) if reached else None
+    return {**side(None, None, why), "proved": proved, "reached": told}
+
+
 def query(text: str, status: str, lower: Any, upper: Any, why: str | None = None) -> dict[str, Any]:
     return {"query": text, "status": status, "why": why, "lower": lower, "upper": upper}
 
@@ -46,8 +52,14 @@ CONSISTENT = answer(
         query("P(a)", "bounds", side("1/3", "0.33"), side("1", "1.00")),
         query("P(b)", "one value", side("25/322", "0.07"), side("25/322", "0.08")),
         query("P(c given d)", "impossible", None, None),
-        query("P(e)", "bounds", side(None, None, "stopped"), side("1/2", "0.50")),
-        query("P(f)", "open", None, None, "not finished"),
+        query("P(e)", "bounds", open_side("stopped", "0", "2/5", "0.40"), side("1/2", "0.50")),
+        query(
+            "P(f)",
+            "open",
+            open_side("not finished", "0"),
+            open_side("not finished", "1"),
+            "not finished",
+        ),
     ],
     status=4,
 )

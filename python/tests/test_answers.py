@@ -7,7 +7,7 @@ import json
 import unittest
 from fractions import Fraction
 
-from psat.answers import Answer, answers_of
+from psat.answers import Answer, Reached, answers_of
 from psat.errors import AnswerError
 
 from .samples import CONSISTENT, INCONSISTENT, OPEN, answer, clash
@@ -35,6 +35,13 @@ class Answers(unittest.TestCase):
     def test_reasons_of_what_is_open(self) -> None:
         reasons = [query.reasons for query in Answer.from_json(CONSISTENT).queries]
         self.assertEqual(reasons, [(), (), (), ("lower bound: stopped",), ("not finished",)])
+
+    def test_what_is_reached_of_an_open_side(self) -> None:
+        sides = [query.lower_side for query in Answer.from_json(CONSISTENT).queries[3:]]
+        assert sides[0] and sides[1]
+        self.assertEqual(sides[0].proved, Fraction(0))
+        self.assertEqual(sides[0].reached, Reached(Fraction(2, 5), "0.40"))
+        self.assertEqual((sides[1].proved, sides[1].reached), (Fraction(0), None))
 
     def test_clash(self) -> None:
         read = Answer.from_json(INCONSISTENT)

@@ -16,6 +16,7 @@ from .samples import (
     WithPrograms,
     answer,
     clash,
+    open_side,
     query,
     said,
     side,
@@ -122,9 +123,15 @@ class Pages(unittest.TestCase):
                 "between 1/3 and 1",
                 "one value: 25/322",
                 "impossible: the sentences give the condition probability 0",
-                "at most 1/2; the lower bound is open",
+                "at most 1/2; the lower bound is open, at most 2/5",
                 "open",
             ],
+        )
+        stopped = [open_side("stopped", proved, "2/5", "0.40") for proved in "01"]
+        read = Answer.from_json(answer(queries=[query("P(a)", "open", *stopped, "stopped")]))
+        self.assertEqual(
+            values_of(read.queries[0]),
+            "the lower bound is open, at most 2/5; the upper bound is open, at least 2/5",
         )
         anything = query("P(a)", "bounds", side("0", "0.0"), side("1", "1.0"))
         read = Answer.from_json(answer(queries=[anything])).queries[0]
