@@ -6,9 +6,12 @@ use Rattle.ps_problem.specs.Problems.{Parts, bounds_of}
 use Rattle.ps_answer.specs.declared.answer.SideAnswer.{SideAnswer}
 use Rattle.ps_answer.specs.declared.answer.SideAnswer.TheVariants.{Bound, Open}
 use Rattle.ps_answer.specs.declared.answer.QueryAnswer.{QueryAnswer}
-use Rattle.ps_claims.specs.Answers.{IsRightPart}
+use Rattle.ps_answer.specs.declared.answer.Model.{Model}
+use Rattle.ps_answer.specs.declared.answer.Verdict.{Verdict}
+use Rattle.ps_claims.specs.Answers.{IsRightPart, IsRightVerdict, ShowsConsistent}
+use Rattle.ps_claims.specs.Certificates.{model_of}
 use Rattle.ps_claims.specs.Validity.{query_of}
-use Rattle.ps_valid.specs.Answers.{part_of}
+use Rattle.ps_valid.specs.Answers.{part_of, verdict_of}
 use Rattle.ps_spoken.specs.declared.reached.Reached.{Reached}
 use Rattle.ps_ask.specs.Reached.{IsReachedAsTold}
 
@@ -16,6 +19,14 @@ use Rattle.ps_ask.specs.Reached.{IsReachedAsTold}
 abbrev pub IsBoundAt : SideAnswer → Rational → Type 0
 IsBoundAt (Bound value m d) x = value ≡ x
 IsBoundAt (Open c) x = ⊥
+
+-- a distribution that meets each of the problem's bounds
+abbrev pub IsModelFor : Parts → Model → Type 0
+IsModelFor p m = ShowsConsistent (length p.names) (bounds_of p) (model_of m)
+
+-- the verdict on a problem is right
+abbrev pub IsRightVerdictFor : Parts → Verdict → Type 0
+IsRightVerdictFor p v = IsRightVerdict (length p.names) (bounds_of p) (verdict_of v)
 
 -- the answer to a query is right for a problem
 abbrev pub IsRightFor : Parts → Query → QueryAnswer → Type 0

@@ -72,7 +72,8 @@ IsOf a (Text b text) = b ≡ a
 IsOf a (Report b) = b ≡ a
 
 -- the reply shows the end of this answer to a problem, in the style of the settings, beside what is reached of each query
-pub record IsShownFor (s : Settings) (name : List ℕ) (p : Parts) (a : Answer) (rs : List (Option Reached)) (r : Reply) : Type 0 where
+pub record IsShownFor (s : Settings) (name : List ℕ) (p : Parts) (a : Answer) (rs : List (Option Reached)) (r : Reply)
+    : Type 0 where
   pub beside : Beside
   pub told : IsToldFor s name p a beside
   pub reached_is : beside.reached ≡ rs

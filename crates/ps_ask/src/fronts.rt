@@ -1,16 +1,14 @@
 //! What is shown of an answer as it goes: its verdict, and each part as soon as it is done.
-ghost use Rattle.std.specs.Prelude.{◌≡◌, ◌++◌, ◌∷◌, [], IfErr, IfOk, OnOk, length};
+ghost use Rattle.std.specs.Prelude.{◌≡◌, ◌++◌, ◌∷◌, [], IfErr, IfOk, OnOk};
 ghost use Rattle.ps_io.specs.Transfer.{Appends};
-ghost use Rattle.ps_problem.specs.Problems.{HasNodes, bounds_of};
-ghost use Rattle.ps_claims.specs.Answers.{IsRightVerdict, ShowsConsistent};
-ghost use Rattle.ps_valid.specs.Answers.{verdict_of};
-ghost use Rattle.ps_claims.specs.Certificates.{model_of};
+ghost use Rattle.ps_problem.specs.Problems.{HasNodes};
 ghost use Rattle.ps_ask.specs.Reached.{AreReachedAsTold, IsReachedAsTold};
 ghost use Rattle.ps_ask.specs.Shown.{AreSettings};
 ghost use Rattle.ps_ask.specs.Fronts.{AreReachedAfter, AreShownAfter, AreShownParts, IsBegunText};
 ghost use Rattle.ps_ask.specs.Fronts.{IsShownPart};
 ghost use Rattle.ps_ask.specs.Fronts.{IsShownVerdict, IsWhole, begun_of, part_piece, piece_of};
 ghost use Rattle.ps_ask.specs.Fronts.{pieces_of, verdict_piece, verdict_shown};
+ghost use Rattle.ps_ask.specs.Known.{IsModelFor, IsRightVerdictFor};
 ghost use Rattle.ps_ask.specs.Rounds.{IsPending};
 ghost use Rattle.ps_ask.specs.Replies.{AreAllPieces, AreShortInTime, CountsShown};
 ghost use Rattle.ps_ask.specs.Replies.{Adds, ArePieces, Stops, IsCut, IsPiece, IsVerdictPiece};
@@ -102,8 +100,7 @@ fn part_with_piece<W: Company>(
     timed: &mut InTime<'_, Engine, W>,
 ) -> Result<((QueryPart, Option<Reached>), Vec<u8>), NoMemory>
     requires settings { AreSettings settings }
-    requires model { ShowsConsistent (length trials.now.names) (bounds_of trials.now)
-        (model_of model.now) }
+    requires model { IsModelFor trials.now model.now }
     requires query { HasNodes trials.now.nodes query.formula query.given query.both }
     requires pending { IsPending settings trials.now query pending }
     ensures judged { IfOk result (λ r. IsShownPart settings trials.now query r.0.0) }
@@ -131,8 +128,7 @@ fn show_part<O: Sink, W: Company>(
     sink: &mut O,
 ) -> Result<(QueryPart, Option<Reached>), ReplyError>
     requires settings { AreSettings settings }
-    requires model { ShowsConsistent (length trials.now.names) (bounds_of trials.now)
-        (model_of model.now) }
+    requires model { IsModelFor trials.now model.now }
     requires query { HasNodes trials.now.nodes query.formula query.given query.both }
     requires pending { IsPending settings trials.now query pending }
     ensures judged { IfOk result (λ r. IsShownPart settings trials.now query r.0) }
@@ -177,8 +173,7 @@ fn show_parts<O: Sink, W: Company>(
     sink: &mut O,
 ) -> Result<(Parts, List<Option<Reached>>), ReplyError>
     requires settings { AreSettings settings }
-    requires model { ShowsConsistent (length trials.now.names) (bounds_of trials.now)
-        (model_of model.now) }
+    requires model { IsModelFor trials.now model.now }
     ensures judged { IfOk result (λ r. AreShownParts settings trials.now trials.now.queries r.0) }
     ensures reached { IfOk result (λ r. AreReachedAsTold trials.now trials.now.queries r.1) }
     ensures wrote { IfOk result
@@ -220,8 +215,7 @@ fn show_parts_under<O: Sink, W: Company>(
     sink: &mut O,
 ) -> Result<(Parts, List<Option<Reached>>), ReplyError>
     requires settings { AreSettings settings }
-    requires right { IsRightVerdict (length trials.now.names) (bounds_of trials.now)
-        (verdict_of verdict.now) }
+    requires right { IsRightVerdictFor trials.now verdict.now }
     ensures judged { IfOk result (λ r. AreShownAfter settings trials.now verdict.now r.0) }
     ensures reached { IfOk result (λ r. AreReachedAfter trials.now verdict.now r.1) }
     ensures wrote { IfOk result

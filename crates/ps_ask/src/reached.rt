@@ -1,11 +1,9 @@
 //! What is reached of a query that is open.
-ghost use Rattle.std.specs.Prelude.{◌≡◌, IfOk, IfSome, length};
-ghost use Rattle.ps_problem.specs.Problems.{HasNodes, bounds_of};
+ghost use Rattle.std.specs.Prelude.{IfOk, IfSome};
+ghost use Rattle.ps_problem.specs.Problems.{HasNodes};
 ghost use Rattle.ps_frac.specs.Decimals.{HasDecimals};
-ghost use Rattle.ps_claims.specs.Answers.{ShowsConsistent};
-ghost use Rattle.ps_claims.specs.Certificates.{model_of};
 ghost use Rattle.ps_ask.specs.Reached.{IsReachedAsTold};
-ghost use Rattle.ps_ask.specs.Known.{IsBoundAt, IsRightFor, KeepsKnownSides};
+ghost use Rattle.ps_ask.specs.Known.{IsBoundAt, IsModelFor, IsRightFor, KeepsKnownSides};
 
 use crate::range::with_value;
 use crate::values::value_in;
@@ -65,8 +63,7 @@ pub(crate) fn reached_of(
     model: &Model,
 ) -> Result<Option<Reached>, NoMemory>
     requires query { HasNodes problem.now.nodes query.formula query.given query.both }
-    requires model { ShowsConsistent (length problem.now.names) (bounds_of problem.now)
-        (model_of model.now) }
+    requires model { IsModelFor problem.now model.now }
     requires right { IsRightFor problem.now query answer.now }
     ensures { IfOk result (IsReachedAsTold problem.now query) }
 {

@@ -1,9 +1,8 @@
 //! The value of a query in a distribution.
-ghost use Rattle.std.specs.Prelude.{◌≡◌, ◌≤ℤ◌, ◌*ℤ◌, pos, IfOk, IfSome, length};
-ghost use Rattle.ps_problem.specs.Problems.{HasNodes, bounds_of};
+ghost use Rattle.std.specs.Prelude.{◌≡◌, ◌≤ℤ◌, ◌*ℤ◌, pos, IfOk, IfSome};
+ghost use Rattle.ps_problem.specs.Problems.{HasNodes};
 ghost use Rattle.ps_frac.specs.Decimals.{HasDecimals};
-ghost use Rattle.ps_claims.specs.Answers.{ShowsConsistent};
-ghost use Rattle.ps_claims.specs.Certificates.{model_of};
+ghost use Rattle.ps_ask.specs.Known.{IsModelFor};
 ghost use Rattle.ps_ask.specs.Reached.{IsReached};
 
 use crate::weights::{weight_given, weight_of};
@@ -40,8 +39,7 @@ pub fn value_in(
     model: &Model,
 ) -> Result<Option<Fraction>, NoMemory>
     requires query { HasNodes problem.now.nodes query.formula query.given query.both }
-    requires model { ShowsConsistent (length problem.now.names) (bounds_of problem.now)
-        (model_of model.now) }
+    requires model { IsModelFor problem.now model.now }
     ensures { IfOk result (λ o. IfSome o (IsReached problem.now query)) }
 {
     let Some(evidence) = weight_given(alloc, problem, model, query.given)? else {

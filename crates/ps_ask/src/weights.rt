@@ -1,11 +1,9 @@
 //! The weights that a distribution gives formulas.
 ghost use Rattle.std.specs.Prelude.{◌≡◌, ◌<◌, ◌+ℤ◌, pos, IfOk, IfSome, length, vec_len};
 ghost use Rattle.std.specs.Prelude.{if◌then◌else◌};
-ghost use Rattle.ps_meaning.specs.Distribution.{total, weight};
-ghost use Rattle.ps_formula.specs.Nodes.{truths};
-ghost use Rattle.ps_problem.specs.Problems.{given_at, tree_at};
+ghost use Rattle.ps_meaning.specs.Distribution.{total};
 ghost use Rattle.ps_claims.specs.Certificates.{entries};
-ghost use Rattle.ps_ask.specs.Weights.{weight_in};
+ghost use Rattle.ps_ask.specs.Weights.{truth_of, weight_at, weight_in, weight_under};
 
 use ps_answer::{Model, Weighted};
 use ps_formula::{World, eval};
@@ -21,9 +19,9 @@ pub(crate) fn truth_in(
     world: &World,
 ) -> Result<Option<Vec<bool>>, NoMemory>
     ensures truths { IfOk result
-        (λ o. IfSome o (λ values. values.items ≡ truths problem.now.nodes world.now)) }
+        (λ o. IfSome o (λ v. v.items ≡ truth_of problem.now world.now)) }
     ensures len { IfOk result
-        (λ o. IfSome o (λ values. vec_len values ≡ length problem.now.nodes)) }
+        (λ o. IfSome o (λ v. vec_len v ≡ length problem.now.nodes)) }
 {
     if world.len() != problem.atoms() as usize {
         return Ok(None);
@@ -73,7 +71,7 @@ pub(crate) fn weight_of(
 ) -> Result<Option<i128>, NoMemory>
     requires node { node < length problem.now.nodes }
     ensures { IfOk result
-        (λ o. IfSome o (λ z. z ≡ weight (entries worlds.now) (tree_at problem.now.nodes node))) }
+        (λ o. IfSome o (λ z. z ≡ weight_at problem.now worlds.now node)) }
 {
     let mut sum = 0;
     for weighted in worlds {
@@ -95,8 +93,8 @@ pub(crate) fn weight_given(
 ) -> Result<Option<i128>, NoMemory>
     requires given { IfSome given (λ g. g < length problem.now.nodes) }
     requires total { model.now.total ≡ total (entries model.now.worlds) }
-    ensures { IfOk result (λ o. IfSome o
-        (λ z. z ≡ weight (entries model.now.worlds) (given_at problem.now.nodes given))) }
+    ensures { IfOk result
+        (λ o. IfSome o (λ z. z ≡ weight_under problem.now model.now.worlds given)) }
 {
     match given {
         Some(node) => weight_of(alloc, problem, model.worlds.as_slice(), node),

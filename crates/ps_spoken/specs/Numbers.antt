@@ -1,5 +1,5 @@
 -- Numbers as they are written for people.
-use Rattle.std.specs.Prelude.{ℕ, pos, ◌==◌, if◌then◌else◌, List, ◌++◌, codes, Result, OnOk}
+use Rattle.std.specs.Prelude.{ℕ, pos, ◌==◌, if◌then◌else◌, List, ◌++◌, codes, Result, OnOk, Vec}
 use Rattle.std.specs.Fmt.{signed_decimal}
 use Rattle.ps_meaning.specs.Rational.{Rational}
 use Rattle.ps_canonical.specs.Lines.{Adds}
@@ -19,5 +19,9 @@ abbrev pub high_text : ℕ → Rational → List ℕ
 high_text digits x = if has_decimals x then text_of (rounded_up x digits) else codes "?"
 
 -- unless memory ran out, the text stands behind what was written before
+abbrev pub Puts : {T E Z : Type 0} → Result T E → (old new : Vec ℕ Z) → List ℕ → Type 0
+Puts result old new text = OnOk result (Adds old.items new.items text)
+
+-- the same of what was written as lists
 abbrev pub Says : {T E : Type 0} → Result T E → (old new text : List ℕ) → Type 0
 Says result old new text = OnOk result (Adds old new text)

@@ -2,7 +2,7 @@
 ghost use Rattle.std.specs.Prelude.{◌<◌, ◌≤◌, OnOk};
 ghost use Rattle.ps_canonical.specs.Lines.{Adds};
 ghost use Rattle.ps_frac.specs.declared.limits.TheConstants.{MOST_DIGITS};
-ghost use Rattle.ps_spoken.specs.Numbers.{Says};
+ghost use Rattle.ps_spoken.specs.Numbers.{Puts, Says};
 ghost use Rattle.ps_spoken.specs.Spoken.{between_text, lower_text, upper_text};
 ghost use Rattle.ps_spoken.specs.Spoken.{bounds_text, decimals_text, stopped_text};
 ghost use Rattle.ps_spoken.specs.Spoken.{one_value_text, sides_text, two_values_text};
@@ -106,8 +106,7 @@ fn lower_side(
 ) -> Result<(), NoMemory>
     requires some { 0 < digits }
     requires few { digits ≤ MOST_DIGITS }
-    ensures { OnOk result
-        (Adds out.old.items out.new.items (lower_text digits side.now reached.now)) }
+    ensures { Puts result out.old out.new (lower_text digits side.now reached.now) }
 {
     match side {
         SideAnswer::Bound { value, .. } => {
@@ -134,8 +133,7 @@ fn upper_side(
 ) -> Result<(), NoMemory>
     requires some { 0 < digits }
     requires few { digits ≤ MOST_DIGITS }
-    ensures { OnOk result
-        (Adds out.old.items out.new.items (upper_text digits side.now reached.now)) }
+    ensures { Puts result out.old out.new (upper_text digits side.now reached.now) }
 {
     match side {
         SideAnswer::Bound { value, .. } => {
@@ -163,8 +161,7 @@ fn sides(
 ) -> Result<(), NoMemory>
     requires some { 0 < digits }
     requires few { digits ≤ MOST_DIGITS }
-    ensures { OnOk result (Adds out.old.items out.new.items
-        (sides_text digits lower.now upper.now reached.now)) }
+    ensures { Puts result out.old out.new (sides_text digits lower.now upper.now reached.now) }
 {
     lower_side(out, lower, reached, digits)?;
     upper_side(out, upper, reached, digits)
@@ -182,8 +179,7 @@ pub fn write_bounds(
 ) -> Result<(), NoMemory>
     requires some { 0 < digits }
     requires few { digits ≤ MOST_DIGITS }
-    ensures { OnOk result (Adds out.old.items out.new.items
-        (bounds_text digits lower.now upper.now reached.now)) }
+    ensures { Puts result out.old out.new (bounds_text digits lower.now upper.now reached.now) }
 {
     match lower {
         SideAnswer::Open(_) => sides(out, lower, upper, reached, digits),

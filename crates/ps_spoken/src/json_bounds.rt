@@ -1,6 +1,6 @@
 //! The bounds of a query as objects.
 ghost use Rattle.std.specs.Prelude.{◌<◌, ◌≤◌};
-ghost use Rattle.ps_spoken.specs.Numbers.{Says};
+ghost use Rattle.ps_spoken.specs.Numbers.{Puts, Says};
 ghost use Rattle.ps_frac.specs.declared.limits.TheConstants.{MOST_DIGITS};
 ghost use Rattle.ps_spoken.specs.Bounds.{bounds_members, exact_text, lower_object};
 ghost use Rattle.ps_spoken.specs.Bounds.{greatest_object, least_object, open_lower, open_members};
@@ -40,7 +40,7 @@ fn write_stopped(out: &mut Vec<u8>, cause: &Cause) -> Result<(), NoMemory>
 fn write_least(out: &mut Vec<u8>, reached: &Option<Reached>, digits: u32) -> Result<(), NoMemory>
     requires some { 0 < digits }
     requires few { digits ≤ MOST_DIGITS }
-    ensures { Says result out.old.items out.new.items (least_object digits reached.now) }
+    ensures { Puts result out.old out.new (least_object digits reached.now) }
 {
     match reached {
         Some(known) => {
@@ -57,7 +57,7 @@ fn write_least(out: &mut Vec<u8>, reached: &Option<Reached>, digits: u32) -> Res
 fn write_greatest(out: &mut Vec<u8>, reached: &Option<Reached>, digits: u32) -> Result<(), NoMemory>
     requires some { 0 < digits }
     requires few { digits ≤ MOST_DIGITS }
-    ensures { Says result out.old.items out.new.items (greatest_object digits reached.now) }
+    ensures { Puts result out.old out.new (greatest_object digits reached.now) }
 {
     match reached {
         Some(known) => {
@@ -79,7 +79,7 @@ fn write_open_lower(
 ) -> Result<(), NoMemory>
     requires some { 0 < digits }
     requires few { digits ≤ MOST_DIGITS }
-    ensures { Says result out.old.items out.new.items
+    ensures { Puts result out.old out.new
         (open_lower digits cause.now reached.now) }
 {
     write_stopped(out, cause)?;
@@ -98,7 +98,7 @@ fn write_open_upper(
 ) -> Result<(), NoMemory>
     requires some { 0 < digits }
     requires few { digits ≤ MOST_DIGITS }
-    ensures { Says result out.old.items out.new.items
+    ensures { Puts result out.old out.new
         (open_upper digits cause.now reached.now) }
 {
     write_stopped(out, cause)?;
@@ -117,7 +117,7 @@ fn write_lower(
 ) -> Result<(), NoMemory>
     requires some { 0 < digits }
     requires few { digits ≤ MOST_DIGITS }
-    ensures { Says result out.old.items out.new.items
+    ensures { Puts result out.old out.new
         (lower_object digits side.now reached.now) }
 {
     match side {
@@ -140,7 +140,7 @@ fn write_upper(
 ) -> Result<(), NoMemory>
     requires some { 0 < digits }
     requires few { digits ≤ MOST_DIGITS }
-    ensures { Says result out.old.items out.new.items
+    ensures { Puts result out.old out.new
         (upper_object digits side.now reached.now) }
 {
     match side {
@@ -180,7 +180,7 @@ fn write_sides(
 ) -> Result<(), NoMemory>
     requires some { 0 < digits }
     requires few { digits ≤ MOST_DIGITS }
-    ensures { Says result out.old.items out.new.items
+    ensures { Puts result out.old out.new
         (sides_members digits lower.now upper.now reached.now) }
 {
     write_lower(out, lower, reached, digits)?;
@@ -199,7 +199,7 @@ pub fn write_bounds(
 ) -> Result<(), NoMemory>
     requires some { 0 < digits }
     requires few { digits ≤ MOST_DIGITS }
-    ensures { Says result out.old.items out.new.items
+    ensures { Puts result out.old out.new
         (bounds_members digits lower.now upper.now reached.now) }
 {
     write_status(out, lower, upper)?;
@@ -217,7 +217,7 @@ fn write_open_sides(
 ) -> Result<(), NoMemory>
     requires some { 0 < digits }
     requires few { digits ≤ MOST_DIGITS }
-    ensures { Says result out.old.items out.new.items
+    ensures { Puts result out.old out.new
         (open_sides digits cause.now reached.now) }
 {
     write_open_lower(out, cause, reached, digits)?;
@@ -236,7 +236,7 @@ pub fn write_open(
 ) -> Result<(), NoMemory>
     requires some { 0 < digits }
     requires few { digits ≤ MOST_DIGITS }
-    ensures { Says result out.old.items out.new.items
+    ensures { Puts result out.old out.new
         (open_members digits cause.now reached.now) }
 {
     append(out, b"open\",\"why\":\"")?;

@@ -1,9 +1,8 @@
 //! The answers to queries, for people.
-ghost use Rattle.std.specs.Prelude.{◌<◌, ◌≤◌, OnOk};
+ghost use Rattle.std.specs.Prelude.{◌<◌, ◌≤◌};
 ghost use Rattle.ps_problem.specs.Problems.{HasNodes};
-ghost use Rattle.ps_canonical.specs.Lines.{Adds};
 ghost use Rattle.ps_frac.specs.declared.limits.TheConstants.{MOST_DIGITS};
-ghost use Rattle.ps_spoken.specs.Numbers.{Says};
+ghost use Rattle.ps_spoken.specs.Numbers.{Puts};
 ghost use Rattle.ps_spoken.specs.Spoken.{answer_text, between_both, part_text};
 
 use crate::bounds::write_bounds;
@@ -25,7 +24,7 @@ fn write_between_both(
 ) -> Result<(), NoMemory>
     requires some { 0 < digits }
     requires few { digits ≤ MOST_DIGITS }
-    ensures { Says result out.old.items out.new.items (between_both digits reached.now) }
+    ensures { Puts result out.old out.new (between_both digits reached.now) }
 {
     append(out, b"  ")?;
     write_lower_between(out, reached, digits)?;
@@ -43,8 +42,7 @@ fn write_query_answer(
 ) -> Result<(), NoMemory>
     requires some { 0 < digits }
     requires few { digits ≤ MOST_DIGITS }
-    ensures { OnOk result
-        (Adds out.old.items out.new.items (answer_text digits answer.now reached.now)) }
+    ensures { Puts result out.old out.new (answer_text digits answer.now reached.now) }
 {
     match answer {
         QueryAnswer::Bounds { lower, upper, .. } => {
@@ -77,7 +75,7 @@ pub fn write_part(
     requires query { HasNodes problem.now.nodes query.formula query.given query.both }
     requires some { 0 < digits }
     requires few { digits ≤ MOST_DIGITS }
-    ensures { Says result out.old.items out.new.items
+    ensures { Puts result out.old out.new
         (part_text digits problem.now query part.now reached.now) }
 {
     write_probability(alloc, problem, query.formula, query.given, out)?;

@@ -1,7 +1,7 @@
 //! The queries of a problem, each with the answer to it, as objects.
 ghost use Rattle.std.specs.Prelude.{◌<◌, ◌≤◌};
 ghost use Rattle.ps_problem.specs.Problems.{HasNodes};
-ghost use Rattle.ps_spoken.specs.Numbers.{Says};
+ghost use Rattle.ps_spoken.specs.Numbers.{Puts};
 ghost use Rattle.ps_frac.specs.declared.limits.TheConstants.{MOST_DIGITS};
 ghost use Rattle.ps_spoken.specs.Queries.{answer_members, entry_text, queries_text, query_object};
 
@@ -24,7 +24,7 @@ fn write_members(
 ) -> Result<(), NoMemory>
     requires some { 0 < digits }
     requires few { digits ≤ MOST_DIGITS }
-    ensures { Says result out.old.items out.new.items
+    ensures { Puts result out.old out.new
         (answer_members digits answer.now reached.now) }
 {
     match answer {
@@ -53,7 +53,7 @@ fn write_query(
     requires query { HasNodes problem.now.nodes query.formula query.given query.both }
     requires some { 0 < digits }
     requires few { digits ≤ MOST_DIGITS }
-    ensures { Says result out.old.items out.new.items
+    ensures { Puts result out.old out.new
         (query_object digits problem.now query part.now reached.now) }
 {
     append(out, b"{\"query\":\"")?;
@@ -74,7 +74,7 @@ fn write_entry(
 ) -> Result<(), NoMemory>
     requires some { 0 < digits }
     requires few { digits ≤ MOST_DIGITS }
-    ensures { Says result out.old.items out.new.items
+    ensures { Puts result out.old out.new
         (entry_text digits problem.now reached.now place part.now) }
 {
     let Some(query) = problem.queries().get(place) else {
@@ -97,7 +97,7 @@ pub fn write_queries(
 ) -> Result<(), NoMemory>
     requires some { 0 < digits }
     requires few { digits ≤ MOST_DIGITS }
-    ensures { Says result out.old.items out.new.items
+    ensures { Puts result out.old out.new
         (queries_text digits problem.now parts.now reached.now) }
 {
     for place in 0..parts.len() {
