@@ -1,4 +1,4 @@
-" Vim syntax file: problem texts of psat, version 1 (docs/problem-text.md).
+" Vim syntax file: problem texts of psat, versions 1 and 2 (docs/problem-text.md).
 " Install: copy this file to ~/.vim/syntax/psat.vim, and ftdetect/psat.vim to ~/.vim/ftdetect/psat.vim.
 if exists("b:current_syntax")
   finish
@@ -16,8 +16,8 @@ syn match psatNumber "\<\d\+\.\d\{1,6}\>"
 syn match psatError "\<\d\+\.\d\{7,}\>"
 syn match psatError "\<\d\+[A-Za-z_]\k*\>"
 syn match psatDelimiter "[()\[\],;]"
-syn match psatOperator "<->\|->\|>=\|<=\|[!&|=]"
-syn match psatError "&&\|||\|=>\|=="
+syn match psatOperator "<->\|->\|>=\|<=\|[-+!&|=]"
+syn match psatError "&&\|||\|=>\|==\|++\|--\|<-\ze[^>]"
 syn match psatComment "#.*$" contains=psatTodo,@Spell
 syn keyword psatTodo TODO FIXME XXX contained
 

@@ -56,9 +56,8 @@ fn demand_of(certainty: &Certainty) -> Demand {
 fn counts_of(alloc: Global, relaxed: &Relaxed) -> Result<Vec<f64>, NoMemory> {
     let mut counts = vec![in alloc; 0.0; relaxed.nodes()]?;
     for row in relaxed.rows() {
-        count(&mut counts, row.bound.both);
-        if let Some(given) = row.bound.given {
-            count(&mut counts, given);
+        for term in row.terms() {
+            count(&mut counts, term.node);
         }
     }
     Ok(counts)

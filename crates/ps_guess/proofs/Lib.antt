@@ -1,5 +1,5 @@
 mod Against
-mod KeptBounds
+mod KeptModels
 mod Logged
 pub mod Settled
 pub mod KnownLaws

@@ -138,7 +138,7 @@ pub fn answer<G: Guesser>(
     ensures read_back { IfOk result (IsReadBack limits) }
 {
     // Called for its clauses: the problem is within the limits, and its numbers are in range.
-    let _sound = problem.bound_list();
+    let _sound = problem.rows();
     let trials = Trials::new(alloc, problem, limits.conflicts)?;
     let (verdict, first) = answer_verdict(alloc, &trials, limits, guesser)?;
     let parts = parts_under(alloc, &trials, &verdict, limits, guesser)?;

@@ -38,7 +38,15 @@ token_of (token.Sign s) = text.Sign s
 
 -- the state, in the words of the definitions
 abbrev pub state_of : State → expected.State
-state_of s = record { part = s.part; query = s.query; given = s.given; opened = s.opened }
+state_of s = record {
+  part = s.part;
+  query = s.query;
+  given = s.given;
+  opened = s.opened;
+  version = s.version;
+  linear = s.linear;
+  minus = s.minus;
+}
 
 -- the state with no `!` open that was opened last
 abbrev pub nots_ended : State → expected.State
