@@ -1,5 +1,5 @@
 -- What is known of a query, where time may be over before it is answered.
-use Rattle.std.specs.Prelude.{ℕ, ◌⊎◌, List, Option, Some, None, IfSome, IsSome, ◌≡◌}
+use Rattle.std.specs.Prelude.{ℕ, ◌+◌, ◌⊎◌, Bool, true, List, Option, Some, None, IfSome, IsSome, ◌≡◌, ◌≢◌}
 use Rattle.ps_problem.specs.declared.query.Query.{Query}
 use Rattle.ps_problem.specs.Problems.{Parts}
 use Rattle.ps_table.specs.declared.event.Event.{Event}
@@ -18,6 +18,7 @@ use Rattle.ps_claims.specs.Printed.{IsPrintedSide}
 use Rattle.ps_runs.specs.declared.limits.Limits.{Limits}
 use Rattle.ps_guess.specs.Trials.{IsFoundSide}
 use Rattle.ps_guess.specs.Turns.{limits_in}
+use Rattle.ps_guess.specs.declared.turns.TheConstants.{MOST_TURNS}
 use Rattle.ps_query.specs.Parts.{IsPartOf, IsVerdictOf}
 use Rattle.ps_query.specs.Settled.{IsClosed}
 use Rattle.ps_guess.specs.Solutions.{IsAnsweredPart}
@@ -104,3 +105,13 @@ pub record LeavesOpen (own : Limits) (p : Parts) : Type 0 where
 abbrev pub TakesVerdict : Limits → ℕ → Parts → Option (Verdict × List Event) → Type 0
 TakesVerdict limits turn p (Some found) = Unit {0}
 TakesVerdict limits turn p None = LeavesOpen (limits_in limits turn) p
+
+-- there is a verdict, or this is so
+abbrev pub IsFoundOr : {V : Type 0} → Bool → Option V → Type 0
+IsFoundOr so (Some found) = Unit {0}
+IsFoundOr so None = so ≡ true
+
+-- there is a verdict, or this is so, or a run within the limits of a turn left it open, which isn't the last turn
+abbrev pub IsRunOr : Bool → Limits → ℕ → Parts → Option (Verdict × List Event) → Type 0
+IsRunOr so limits turn p (Some found) = Unit {0}
+IsRunOr so limits turn p None = (so ≡ true) ⊎ ((turn + 1 ≢ MOST_TURNS) × LeavesOpen (limits_in limits turn) p)

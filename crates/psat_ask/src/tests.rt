@@ -1,5 +1,5 @@
 //! What words ask for, and the report of an answer.
-ghost use Rattle.std.specs.Prelude.{IfSome};
+ghost use Rattle.std.specs.Prelude.{IfSome, false};
 ghost use Rattle.ps_ask.specs.Shown.{AreSettings};
 ghost use Rattle.ps_valid.specs.Limits.{IsSmallAnswer};
 ghost use Rattle.psat_ask.specs.Requests.{HasSettings};
@@ -329,6 +329,8 @@ const PROBLEM: &[u8] = b"psat 1; P(a) in [1/3, 1/2]; P(b given a) >= 2/3; query 
 struct Alone;
 
 impl Watch for Alone {
+    ghost has_refused = { λ _. false };
+
     fn is_over(&mut self) -> bool {
         false
     }
