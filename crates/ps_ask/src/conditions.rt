@@ -1,7 +1,7 @@
 //! Conditions of sentences that no distribution gives weight.
-ghost use Rattle.std.specs.Prelude.{◌≡◌, true, All, IfOk};
+ghost use Rattle.std.specs.Prelude.{◌≡◌, true, IfOk};
 ghost use Rattle.ps_problem.specs.Problems.{IsSentence};
-ghost use Rattle.ps_ask.specs.Conditions.{IsIdle, IsIdlePlace, condition_of};
+ghost use Rattle.ps_ask.specs.Conditions.{AreIdleWarnings, IsIdle, condition_of};
 ghost use Rattle.ps_ask.specs.Shown.{AreSettings};
 
 use crate::company::Company;
@@ -16,6 +16,15 @@ use ps_hints::{Warning, idle_warning, sentence_lines};
 use ps_io::{List, NoMemory};
 use ps_problem::{Problem, Query, Sentence};
 use std::alloc::Global;
+
+/// Warnings about sentences whose condition no distribution gives weight.
+#[derive(Drop)]
+pub(crate) struct IdleWarnings {
+    /// The places of the sentences among those of the problem, from 0.
+    pub(crate) sentences: List<usize>,
+    /// A warning about each, in the same order.
+    pub(crate) warnings: Vec<Warning>,
+}
 
 // Marks the nodes of formulas that are true in a world of the distribution: it gives them weight.
 fn mark_by_model(
@@ -118,31 +127,6 @@ fn is_idle<W: Company>(
     Ok(false)
 }
 
-// The places among the sentences of the problem, from 0, of those among these whose condition no
-// distribution gives weight, as far as that is shown in time.
-#[tactic(auto, using(ps_spoken::proofs::ClashLists::sentence_there))]
-fn idle_among<W: Company>(
-    alloc: Global,
-    settings: Settings,
-    trials: &Trials<'_>,
-    places: &[usize],
-    timed: &mut InTime<'_, Engine, W>,
-) -> Result<List<usize>, NoMemory>
-    requires settings { AreSettings settings }
-    ensures { IfOk result (All (IsIdlePlace trials.now)) }
-{
-    let sentences = trials.problem().sentences();
-    let mut idle = List::new(alloc);
-    for place in places {
-        if let Some(sentence) = sentences.get(*place) {
-            if is_idle(alloc, settings, trials, sentence, timed)? {
-                idle.push(*place)?;
-            }
-        }
-    }
-    Ok(idle)
-}
-
 // The places of the sentences whose condition none of these distributions gives weight.
 fn unweighed_places(
     alloc: Global,
@@ -160,23 +144,37 @@ fn unweighed_places(
     Ok(places)
 }
 
-// The warnings about the sentences at these places.
+// A warning about each sentence at these places whose condition no distribution gives weight, as far
+// as that is shown in time.
 #[tactic(auto, using(ps_spoken::proofs::ClashLists::sentence_there))]
-fn idle_warnings(
+fn idle_among<W: Company>(
     alloc: Global,
+    settings: Settings,
     input: Input<'_>,
-    problem: &Problem,
-    idle: &[usize],
-) -> Result<Vec<Warning>, NoMemory> {
-    let mut warnings = Vec::new(alloc);
+    trials: &Trials<'_>,
+    places: &[usize],
+    timed: &mut InTime<'_, Engine, W>,
+) -> Result<IdleWarnings, NoMemory>
+    requires settings { AreSettings settings }
+    ensures { IfOk result (AreIdleWarnings trials.now) }
+{
+    let problem = trials.problem();
     let lines = sentence_lines(alloc, input.bytes)?;
-    for place in idle {
+    let mut sentences = List::new(alloc);
+    let mut warnings = Vec::new(alloc);
+    for place in places {
         if let Some(sentence) = problem.sentences().get(*place) {
-            let line = lines.get(*place).copied();
-            warnings.push(idle_warning(alloc, line, problem, sentence)?)?;
+            if is_idle(alloc, settings, trials, sentence, timed)? {
+                let line = lines.get(*place).copied();
+                warnings.push(idle_warning(alloc, line, problem, sentence)?)?;
+                sentences.push(*place)?;
+            }
         }
     }
-    Ok(warnings)
+    Ok(IdleWarnings {
+        sentences,
+        warnings,
+    })
 }
 
 /// The warnings about sentences whose condition no distribution gives weight, where the verdict is
@@ -188,13 +186,16 @@ pub(crate) fn idle_noted<W: Company>(
     trials: &Trials<'_>,
     answer: &Answer,
     timed: &mut InTime<'_, Engine, W>,
-) -> Result<Vec<Warning>, NoMemory>
+) -> Result<IdleWarnings, NoMemory>
     requires settings { AreSettings settings }
+    ensures { IfOk result (AreIdleWarnings trials.now) }
 {
     let Verdict::Consistent(model) = &answer.verdict else {
-        return Ok(Vec::new(alloc));
+        return Ok(IdleWarnings {
+            sentences: List::new(alloc),
+            warnings: Vec::new(alloc),
+        });
     };
     let places = unweighed_places(alloc, trials.problem(), model, answer)?;
-    let idle = idle_among(alloc, settings, trials, places.as_slice(), timed)?;
-    idle_warnings(alloc, input, trials.problem(), idle.as_slice())
+    idle_among(alloc, settings, input, trials, places.as_slice(), timed)
 }
