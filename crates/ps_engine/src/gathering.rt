@@ -6,8 +6,8 @@ use crate::limits::{
     MOST_REPAIRS, OFF_FACE, SEED,
 };
 use crate::vertex::Vertex;
-use ps_climb::{Demand, Goal as ClimbGoal, LocalSearch};
-use ps_float_pricing::{Certainty, FloatGoal, Member, Relaxed};
+use ps_climb::{Goal as ClimbGoal, LocalSearch};
+use ps_float_pricing::{FloatGoal, Member, Relaxed};
 use ps_formula::World;
 use ps_io::NoMemory;
 use ps_problem::Problem;
@@ -41,15 +41,6 @@ pub(crate) struct Gathering {
 struct Centre {
     world: World,
     truth: Vec<bool>,
-}
-
-// What a certainty demands of a world.
-fn demand_of(certainty: &Certainty) -> Demand {
-    match certainty.given {
-        _ if !certainty.is_true => Demand::False(certainty.both),
-        Some(given) => Demand::Implies(given, certainty.both),
-        None => Demand::True(certainty.both),
-    }
 }
 
 // In how many rows each node stands.
@@ -126,10 +117,7 @@ impl Gathering {
             return Ok(None);
         };
         let relaxed = about.relaxed;
-        let mut demands = Vec::new(alloc);
-        for certainty in relaxed.certainties() {
-            demands.push(demand_of(certainty))?;
-        }
+        let demands = relaxed.demands(alloc)?;
         let atoms = problem.atoms() as usize;
         let mut gathering = Gathering {
             alloc,

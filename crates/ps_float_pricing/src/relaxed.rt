@@ -7,6 +7,8 @@ use crate::multipliers::Multipliers;
 use crate::row::{Certainty, Row};
 use crate::sorting::{Part, part_of};
 use crate::truth::is_given;
+use ps_climb::Demand;
+use ps_io::NoMemory;
 use ps_problem::Problem;
 use std::alloc::{AllocError, Global};
 use std::num::nearest_i64_to_f64;
@@ -115,6 +117,15 @@ impl Relaxed {
     /// The certainties.
     pub fn certainties(&self) -> &[Certainty] {
         &self.certainties
+    }
+
+    /// What they demand of a world that a local search looks for.
+    pub fn demands(&self, alloc: Global) -> Result<Vec<Demand>, NoMemory> {
+        let mut demands = Vec::new(alloc);
+        for certainty in &self.certainties {
+            demands.push(certainty.demand())?;
+        }
+        Ok(demands)
     }
 
     /// Whether a world meets the certainties.

@@ -1,6 +1,7 @@
 //! The bounds of a problem: rows, and certainties.
 
 use crate::truth::{is_given, is_true};
+use ps_climb::Demand;
 use ps_meaning::Side;
 use std::alloc::{AllocError, Global};
 use std::num::nearest_i64_to_f64;
@@ -26,6 +27,15 @@ impl Certainty {
             !is_given(truth, self.given) || is_true(truth, self.both)
         } else {
             !is_true(truth, self.both)
+        }
+    }
+
+    /// What it demands of a world that a local search looks for.
+    pub(crate) fn demand(&self) -> Demand {
+        match self.given {
+            _ if !self.is_true => Demand::False(self.both),
+            Some(given) => Demand::Implies(given, self.both),
+            None => Demand::True(self.both),
         }
     }
 }

@@ -1,6 +1,5 @@
 //! The search by clauses for worlds of a problem.
 
-use crate::climbing::demand_of;
 use crate::relaxed::Relaxed;
 use ps_io::NoMemory;
 use ps_problem::Problem;
@@ -34,7 +33,7 @@ pub(crate) fn search_over(
     let cited = cited_nodes(alloc, problem)?;
     let mut search = WorldSearch::new(alloc, problem.formulas(), problem.atoms(), &cited)?;
     for certainty in relaxed.certainties() {
-        search.demand(demand_of(certainty))?;
+        search.demand(certainty.demand())?;
     }
     Ok(search)
 }
