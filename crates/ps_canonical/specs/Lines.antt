@@ -14,7 +14,7 @@ use Rattle.ps_problem.specs.Problems.{Parts}
 use Rattle.ps_problem.specs.Written.{named_at, ratio_at, statement_from, question_from}
 use Rattle.ps_text.specs.declared.version.Version.{Version}
 use Rattle.ps_text.specs.declared.version.Version.TheVariants.{One, Two}
-use Rattle.ps_canonical.specs.Terms.{linear_terms_text, rights_text}
+use Rattle.ps_canonical.specs.Terms.{left_text, rights_text}
 
 -- the version of sentences' text: 2 where one is linear, and else 1
 abbrev pub version_from : List Sentence → Version
@@ -53,7 +53,7 @@ bounds_text first second = relation_text (canonical_relation first.side (ratio_a
 -- a sentence: its probability or its terms, and how they are bounded
 abbrev pub statement_text : Parts → Sentence → List ℕ
 statement_text p (sentence.Plain first second) = probability_text p first.formula first.given ++ bounds_text first second
-statement_text p (sentence.Linear l) = linear_terms_text p l ++ rights_text l
+statement_text p (sentence.Linear l) = left_text p l ++ rights_text l
 
 -- the line of a sentence
 abbrev pub sentence_line : Parts → Sentence → List ℕ

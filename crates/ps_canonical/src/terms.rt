@@ -1,10 +1,8 @@
 //! The terms of linear sentences.
 ghost use Rattle.std.specs.Prelude.{◌≡◌, ◌<◌, OnOk, length};
 ghost use Rattle.ps_problem.specs.Problems.{IsLinear};
-ghost use Rattle.ps_problem.specs.Scales.{fraction_of};
 ghost use Rattle.ps_canonical.specs.Lines.{Adds};
-ghost use Rattle.ps_canonical.specs.Terms.{sign_text, term_text_of, signed_term_text};
-ghost use Rattle.ps_canonical.specs.Terms.{linear_terms_text};
+ghost use Rattle.ps_canonical.specs.Terms.{sign_text, term_text_at, signed_term, left_text};
 
 use crate::lines::write_probability;
 use crate::values::{append, is_negative, size};
@@ -29,33 +27,32 @@ fn write_term(
     alloc: Global,
     problem: &Problem,
     node: u32,
-    coefficient: Signed,
+    factor: Signed,
     out: &mut Vec<u8>,
 ) -> Result<(), NoMemory>
     requires { node < length problem.now.nodes }
     ensures { OnOk result
-        (Adds out.old.items out.new.items (term_text_of problem.now node (fraction_of coefficient))) }
+        (Adds out.old.items out.new.items (term_text_at problem.now node factor)) }
 {
-    size(out, coefficient)?;
+    size(out, factor)?;
     append(out, b" ")?;
     write_probability(alloc, problem, node, None, out)
 }
 
-// Writes a term behind its sign.
+// Writes a term, a node and its coefficient, behind its sign.
 fn write_signed_term(
     alloc: Global,
     problem: &Problem,
     is_first: bool,
-    node: u32,
-    coefficient: Signed,
+    term: (u32, Signed),
     out: &mut Vec<u8>,
 ) -> Result<(), NoMemory>
-    requires { node < length problem.now.nodes }
-    ensures { OnOk result (Adds out.old.items out.new.items
-        (signed_term_text problem.now is_first node (fraction_of coefficient))) }
+    requires { term.0 < length problem.now.nodes }
+    ensures { OnOk result
+        (Adds out.old.items out.new.items (signed_term problem.now is_first term)) }
 {
-    append(out, sign(is_first, is_negative(coefficient.num)))?;
-    write_term(alloc, problem, node, coefficient, out)
+    append(out, sign(is_first, is_negative(term.1.num)))?;
+    write_term(alloc, problem, term.0, term.1, out)
 }
 
 // Writes the terms of a linear sentence.
@@ -67,11 +64,11 @@ pub(crate) fn write_terms(
 ) -> Result<(), NoMemory>
     requires { IsLinear problem.now.nodes linear.now }
     ensures { OnOk result
-        (Adds out.old.items out.new.items (linear_terms_text problem.now linear.now)) }
+        (Adds out.old.items out.new.items (left_text problem.now linear.now)) }
 {
     for (place, term) in linear.terms.as_slice().iter().enumerate() {
         let coefficient = lowest(linear.scale, term.1);
-        write_signed_term(alloc, problem, place == 0, term.0, coefficient, out)?;
+        write_signed_term(alloc, problem, place == 0, (term.0, coefficient), out)?;
     }
     Ok(())
 }

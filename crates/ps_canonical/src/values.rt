@@ -4,7 +4,7 @@ ghost use Rattle.ps_text.specs.Canonical.{is_negative};
 ghost use Rattle.ps_problem.specs.Scales.{fraction_of};
 ghost use Rattle.ps_canonical.specs.Lines.{Adds, bounds_text, value_text};
 ghost use Rattle.ps_canonical.specs.Terms.{fraction_text, size_text, signed_text_of, rights_text};
-ghost use Rattle.ps_canonical.specs.Terms.{range_text, IsSmallLinear};
+ghost use Rattle.ps_canonical.specs.Terms.{range_between, right_text, IsSmallLinear};
 
 use ps_io::NoMemory;
 use ps_problem::{Bound, Linear, Side, Signed, lowest};
@@ -59,19 +59,18 @@ pub(crate) fn size(out: &mut Vec<u8>, fraction: Signed) -> Result<(), NoMemory>
 }
 
 // Writes a fraction that may be below 0, with its `-` at it.
-fn signed_fraction(out: &mut Vec<u8>, fraction: Signed) -> Result<(), NoMemory>
-    ensures { OnOk result (Adds out.old.items out.new.items (signed_text_of (fraction_of fraction))) }
+fn signed_fraction(out: &mut Vec<u8>, value: Signed) -> Result<(), NoMemory>
+    ensures { OnOk result (Adds out.old.items out.new.items (signed_text_of (fraction_of value))) }
 {
-    if is_negative(fraction.num) {
+    if is_negative(value.num) {
         append(out, b"-")?;
     }
-    size(out, fraction)
+    size(out, value)
 }
 
 // Writes a sign and a right side behind it.
 fn right(out: &mut Vec<u8>, sign: &[u8], value: Signed) -> Result<(), NoMemory>
-    ensures { OnOk result
-        (Adds out.old.items out.new.items (sign.now ++ signed_text_of (fraction_of value))) }
+    ensures { OnOk result (Adds out.old.items out.new.items (right_text sign.now value)) }
 {
     append(out, sign)?;
     signed_fraction(out, value)
@@ -109,8 +108,7 @@ pub(crate) fn relation(
 
 // Writes that a sum is in a range.
 fn range(out: &mut Vec<u8>, least: Signed, most: Signed) -> Result<(), NoMemory>
-    ensures { OnOk result (Adds out.old.items out.new.items
-        (range_text (fraction_of least) (fraction_of most))) }
+    ensures { OnOk result (Adds out.old.items out.new.items (range_between least most)) }
 {
     right(out, b" in [", least)?;
     right(out, b", ", most)?;

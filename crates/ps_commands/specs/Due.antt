@@ -215,8 +215,8 @@ pub data Due (words : List (List ℕ)) (bytes : List ℕ) (o : Output) : Type 0 
 abbrev pub AreNoProblem : List ℕ → Type 0
 AreNoProblem bytes = (p : Parts) → length bytes ≤ MOST_PROBLEM → ¬ SpellsWhole bytes p
 
--- where one output at most is due: for `check` and `upgrade` always; for `solve` and `explain` where the bytes are no problem, since a problem
--- may have several right answers and explanations; for `make` it is never claimed
+-- where one output at most is due: for `check` and `upgrade` always; for `solve` and `explain` where the bytes are no problem,
+-- since a problem may have several right answers and explanations; for `make` it is never claimed
 abbrev pub IsSingle : Command → List ℕ → Type 0
 IsSingle (Check limit) bytes = Unit {0}
 IsSingle (Solve limits enough) bytes = AreNoProblem bytes

@@ -20,7 +20,8 @@ IsAtHead k = (k ≡ kind.Expected what.Psat) ⊎ (k ≡ kind.Expected what.Versi
 
 -- the front of a sentence or of a query is expected
 abbrev pub IsAtItem : ReadKind → Type 0
-IsAtItem k = (k ≡ kind.Expected what.Item) ⊎ (k ≡ kind.Expected what.Item2) ⊎ (k ≡ kind.Expected what.Term) ⊎ (k ≡ kind.Expected what.Prob)
+IsAtItem k = (k ≡ kind.Expected what.Item) ⊎ (k ≡ kind.Expected what.Item2) ⊎ (k ≡ kind.Expected what.Term)
+    ⊎ (k ≡ kind.Expected what.Prob)
 
 -- a sign stands where none is expected; in version 1 `+` and `-` are no signs
 abbrev pub IsAtSign : ReadKind → Type 0

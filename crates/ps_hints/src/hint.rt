@@ -267,7 +267,7 @@ impl Hint {
             Hint::Product => "probabilities aren't multiplied: P(a & b) is the probability of both",
             Hint::Quotient => "write P(a given b) for P(a & b) / P(b), and 1/2 P(a) for P(a) / 2",
             Hint::GivenInSum =>
-                "no given stands in a sum: write P(a & c) - P(b & c) >= 0 for P(a given c) >= P(b given c)",
+                "in a sum write P(a & c) - P(b & c) >= 0 for P(a given c) >= P(b given c)",
             Hint::QuerySum => "a query asks for one P(..): ask for each by itself",
             Hint::NumberAlone =>
                 "a number without P(..) stands behind the relation: P(a) - P(b) >= 1/2",
@@ -329,7 +329,7 @@ impl Hint {
             Hint::Queries => "ask in several files",
             Hint::Terms => "where a and b exclude each other, write P(a | b) for P(a) + P(b)",
             Hint::Large =>
-                "round them: their common denominator is at most 1000000, and over it they sum to at most 2000000",
+                "round them: over a denominator of at most 1000000 they sum to at most 2000000",
         }
     }
 }

@@ -25,7 +25,8 @@ symbol_begun here b =
     else if b == 44 then mode.Sign symbol.Comma else if b == 59 then mode.Sign symbol.Semicolon
     else if b == 33 then mode.Sign symbol.Bang else if b == 38 then mode.Sign symbol.Ampersand
     else if b == 124 then mode.Sign symbol.Bar else if b == 61 then mode.Sign symbol.Equals
-    else if b == 43 then mode.Sign symbol.Plus else if b == 45 then mode.Minus else if b == 60 then mode.Less else if b == 62 then mode.Greater
+    else if b == 43 then mode.Sign symbol.Plus else if b == 45 then mode.Minus
+    else if b == 60 then mode.Less else if b == 62 then mode.Greater
     else mode.Bad here
 
 -- the mode behind a byte outside of tokens that stands here

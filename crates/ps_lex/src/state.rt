@@ -1,5 +1,5 @@
 //! What is expected between two tokens.
-ghost use Rattle.std.specs.Prelude.{◌≡◌, ◌<◌, true, nat_lt, OnOk, OnErr, None};
+ghost use Rattle.std.specs.Prelude.{◌≡◌, nat_lt, OnOk, OnErr, None};
 ghost use Rattle.std.specs.List.{list_any};
 ghost use Rattle.ps_text.specs.declared.limits.TheConstants.{MOST_TERMS};
 ghost use Rattle.ps_text.specs.ExpectedTokens.{at_start, in_version, in_term, in_relation};
@@ -10,7 +10,7 @@ ghost use Rattle.ps_text.specs.ExpectedTokens.{greatest_value, terms_so_far, ter
 ghost use Rattle.ps_text.specs.ExpectedTokens.{depth_fault, fault_at, refusal};
 ghost use Rattle.ps_text.specs.ExpectedTokens.{closed, after_item_start, after_left};
 ghost use Rattle.ps_lex.specs.KeptTokens.{token_of, state_of, nots_ended, arrows_ended};
-ghost use Rattle.ps_lex.specs.KeptTokens.{behind, behind_operand, behind_operator};
+ghost use Rattle.ps_lex.specs.KeptTokens.{behind, behind_operand, behind_operator, HasRoom};
 
 use crate::judge::{
     begins_operand, begins_signed, has_linear, is_connective, is_foreign, is_number, is_sign,
@@ -327,7 +327,7 @@ impl State {
 
     // Behind the sign before a term, `in` or the symbol of a relation.
     fn after_left(&mut self, token: &Token)
-        requires few { is_term_sign (token_of token.now) ≡ true → terms_so_far self.old.linear < MOST_TERMS }
+        requires few { HasRoom self.old.linear (token_of token.now) }
         ensures { state_of self.new ≡ after_left (state_of self.old) (token_of token.now) }
     {
         if is_term_sign(token) {

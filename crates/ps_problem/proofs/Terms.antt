@@ -53,7 +53,7 @@ module _ (names : List Name) (start : List (Formula Name)) (m : ℕ) (all : List
 
   -- the last turn
   pub terms-end : (i : ℕ) (b : Building) (made : List (ℕ × ℤ)) (r : TermsNumbered names start m all i b made) → length all ≤ i
-      → GivesTerms names (with_formulas start (numbered_in_terms all)) m all b.atoms b.formulas (Ok made)
+      → GivesTerms names (with_formulas start (numbered_in_terms all)) m all b (Ok made)
   terms-end i b made r le =
       let t = take_all i all le in (
         r.built,

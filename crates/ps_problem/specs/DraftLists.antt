@@ -13,7 +13,8 @@ use Rattle.ps_text.specs.declared.limits.TheConstants.{MOST_TERMS}
 use Rattle.ps_problem.specs.declared.draft_item.DraftItem.TheVariants as item
 use Rattle.ps_problem.specs.Numbering.{same_name, AreOnce}
 use Rattle.ps_text.specs.Canonical.{canonical_nesting, IsReduced, IsUpper, IsReducedWeight, IsSumUpper}
-use Rattle.ps_problem.specs.Drafts.{Drafted, arity, marked, NameBelow, AreBelow, ratio_of, signed_of, statement_at, sum_at, IsDraftTerm, question_at}
+use Rattle.ps_problem.specs.Drafts.{Drafted, arity, marked, NameBelow, AreBelow, ratio_of, signed_of}
+use Rattle.ps_problem.specs.Drafts.{statement_at, sum_at, IsDraftTerm, question_at}
 
 -- the formulas that stand open after some marks
 abbrev pub open_after : List Name → List (Formula Name) → List Mark → List (Formula Name)

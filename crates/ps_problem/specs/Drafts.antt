@@ -1,9 +1,11 @@
 -- What a draft of a problem holds.
-use Rattle.std.specs.Prelude.{◌≤◌, ◌<◌, ◌-◌, ℕ, List, [], ◌∷◌, ◌++◌, Option, length, map, option_map, take, All, IfSome, slice_index_or}
+use Rattle.std.specs.Prelude.{◌≤◌, ◌<◌, ◌-◌, ℕ, List, [], ◌∷◌, ◌++◌, Option, length, map}
+use Rattle.std.specs.Prelude.{option_map, take, All, IfSome, slice_index_or}
 use Rattle.ps_meaning.specs.Formula.{Formula}
 use Rattle.ps_meaning.specs.Formula as formula
 use Rattle.ps_meaning.specs.declared.side.Side.{Side}
-use Rattle.ps_meaning.specs.Statements.{Name, Ratio, SignedRatio, Summand, PlainStatement, LinearStatement, Statement, Plain, Linear}
+use Rattle.ps_meaning.specs.Statements.{Name, Ratio, SignedRatio, Summand, PlainStatement}
+use Rattle.ps_meaning.specs.Statements.{LinearStatement, Statement, Plain, Linear}
 use Rattle.ps_meaning.specs.Statements.{Question, Item, Stated, Asked}
 use Rattle.ps_text.specs.Canonical.{canonical_nesting, IsReduced, IsUpper, IsReducedWeight, IsSumUpper}
 use Rattle.ps_text.specs.declared.limits.TheConstants.{MOST_TERMS}
@@ -83,7 +85,8 @@ HasReducedValues (Asked q) = Unit {0}
 -- the canonical spellings of an item's formulas don't nest too deep
 abbrev pub IsNested : Item → Type 0
 IsNested (Stated (Linear s)) = All (λ t. canonical_nesting t.formula ≤ MOST_NESTING) s.terms
-IsNested (Stated (Plain s)) = (canonical_nesting s.formula ≤ MOST_NESTING) × IfSome s.given (λ g. canonical_nesting g ≤ MOST_NESTING)
+IsNested (Stated (Plain s)) = (canonical_nesting s.formula ≤ MOST_NESTING)
+    × IfSome s.given (λ g. canonical_nesting g ≤ MOST_NESTING)
 IsNested (Asked q) = (canonical_nesting q.formula ≤ MOST_NESTING) × IfSome q.given (λ g. canonical_nesting g ≤ MOST_NESTING)
 
 -- the formula of a number

@@ -3,7 +3,8 @@ use Rattle.std.specs.Prelude.{◌≡◌, ℕ, ℤ, List, [], Err, Some, slice_ge
 use Rattle.ps_meaning.specs.Formula.{Formula}
 use Rattle.ps_meaning.specs.declared.side.Side.{Side}
 use Rattle.ps_meaning.specs.declared.side.Side.TheVariants.{AtMost}
-use Rattle.ps_meaning.specs.Statements.{Name, PlainStatement, Statement, Plain, Linear, Question, Item, statements_of, questions_of}
+use Rattle.ps_meaning.specs.Statements.{Name, PlainStatement, Statement, Plain, Linear}
+use Rattle.ps_meaning.specs.Statements.{Question, Item, statements_of, questions_of}
 use Rattle.ps_problem.specs.declared.bound.Bound.{Bound}
 use Rattle.ps_problem.specs.declared.sentence.Sentence.{Sentence}
 use Rattle.ps_problem.specs.declared.query.Query.{Query}

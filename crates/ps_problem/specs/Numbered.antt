@@ -120,11 +120,11 @@ HasSummand fs t = IsAmong fs t.formula
 
 -- what is expected was built, and the summands have these numbers, their coefficients times a scale; or there is the excess that
 -- is expected
-abbrev pub GivesTerms : List Name → Result (List (Formula Name)) Excess → ℕ → List Summand → List ℕ → List Node
+abbrev pub GivesTerms : List Name → Result (List (Formula Name)) Excess → ℕ → List Summand → Building
     → Result (List (ℕ × ℤ)) Fault → Type 0
-GivesTerms names expected m ss atoms nodes (Ok ts) =
-    (h : Built names atoms nodes) × (expected ≡ Ok h.formulas) × All (HasSummand h.formulas) ss × (ts ≡ map (term_in h.formulas m) ss)
-GivesTerms names expected m ss atoms nodes (Err x) = IsFaultOf expected x
+GivesTerms names expected m ss b (Ok ts) = (h : Built names b.atoms b.formulas) × (expected ≡ Ok h.formulas)
+    × All (HasSummand h.formulas) ss × (ts ≡ map (term_in h.formulas m) ss)
+GivesTerms names expected m ss b (Err x) = IsFaultOf expected x
 
 -- as far as terms have been gone through: those so far have their numbers, and what is left gives what all of them give
 pub record TermsNumbered (names : List Name) (start : List (Formula Name)) (m : ℕ) (all : List Summand) (i : ℕ) (b : Building)
@@ -138,8 +138,8 @@ pub record TermsNumbered (names : List Name) (start : List (Formula Name)) (m : 
 -- of the result, their coefficients times a scale; or there is the excess at one of them
 abbrev pub NumbersTerms : Drafted → Building → ℕ → List Term → Building → Result (List (ℕ × ℤ)) Fault → Type 0
 NumbersTerms d old m ts new result = (h : Built d.names old.atoms old.formulas)
-    → GivesTerms d.names (with_formulas h.formulas (numbered_in_terms (map (summand_at d.formulas) ts))) m (map (summand_at d.formulas) ts)
-    new.atoms new.formulas result
+    → GivesTerms d.names (with_formulas h.formulas (numbered_in_terms (map (summand_at d.formulas) ts))) m
+        (map (summand_at d.formulas) ts) new result
 
 -- what is expected was built, and the question has these numbers; or there is the excess that is expected
 abbrev pub GivesQuery : List Name → Result (List (Formula Name)) Excess → Question → List ℕ → List Node

@@ -87,7 +87,11 @@ bound_of ns (PlainIn b) = meaning.Plain (record {
   num = pos b.num;
   den = pos b.den;
 })
-bound_of ns (LinearIn l upper) = meaning.Linear (record { terms = weights_at ns l.terms; side = side_at l upper; right = right_at l upper })
+bound_of ns (LinearIn l upper) = meaning.Linear (record {
+  terms = weights_at ns l.terms;
+  side = side_at l upper;
+  right = right_at l upper;
+})
 
 -- the bounds that a problem's sentences stand for
 abbrev pub bounds_of : Parts → List meaning.Bound

@@ -70,7 +70,12 @@ row_size r = unsigned_abs r.base + terms_size r.terms
 -- where nothing is given
 abbrev pub plain_row : Bound → Option ℕ → Row
 plain_row b None = record { side = b.side; unit = b.den; base = neg_ℤ (pos b.num); terms = (b.both, pos b.den) ∷ [] }
-plain_row b (Some g) = record { side = b.side; unit = b.den; base = pos 0; terms = (b.both, pos b.den) ∷ (g, neg_ℤ (pos b.num)) ∷ [] }
+plain_row b (Some g) = record {
+  side = b.side;
+  unit = b.den;
+  base = pos 0;
+  terms = (b.both, pos b.den) ∷ (g, neg_ℤ (pos b.num)) ∷ [];
+}
 
 -- the row of a bound
 abbrev pub row_at : BoundIn → Row
@@ -99,7 +104,8 @@ pub record IsRow (ns : List Node) (r : Row) : Type 0 where
 
 -- a bound over nodes that are there is met exactly where its row is
 abbrev pub BoundsAreRows : Type 0
-BoundsAreRows = (ns : List Node) (b : BoundIn) (d : List Entry) → IsBoundIn ns b → MeetsBound (bound_of ns b) d ↔ MeetsRow (row_of ns (row_at b)) d
+BoundsAreRows = (ns : List Node) (b : BoundIn) (d : List Entry) → IsBoundIn ns b
+    → MeetsBound (bound_of ns b) d ↔ MeetsRow (row_of ns (row_at b)) d
 
 -- a number of a bound's row, with the sign that leaves it at most 0 where the bound is met: turned round at a lower bound
 abbrev pub signed_by : Side → ℤ → ℤ

@@ -1,6 +1,8 @@
 -- The whole numbers of a linear sentence: its numbers times the least common multiple of their denominators.
-use Rattle.std.specs.Prelude.{◌≡◌, ◌≤◌, ◌<◌, ℕ, ℤ, pos, int_div, ◌+◌, ◌*◌, ◌/◌, ◌*ℤ◌, unsigned_abs, nat_lt, Bool, true, ◌||◌, if◌then◌else◌}
-use Rattle.std.specs.Prelude.{List, [], ◌∷◌, ◌++◌, map, All, Option, Some, None, option_to_list, IfSome, length, option_map, false}
+use Rattle.std.specs.Prelude.{◌≡◌, ◌≤◌, ◌<◌, ℕ, ℤ, pos, int_div, ◌+◌, ◌*◌, ◌/◌, ◌*ℤ◌}
+use Rattle.std.specs.Prelude.{unsigned_abs, nat_lt, Bool, true, ◌||◌, if◌then◌else◌}
+use Rattle.std.specs.Prelude.{List, [], ◌∷◌, ◌++◌, map, All, Option, Some, None}
+use Rattle.std.specs.Prelude.{option_to_list, IfSome, length, option_map, false}
 use Rattle.std.specs.Int.{◌∣◌, IsGcd}
 use Rattle.std.specs.List.{list_any}
 use Rattle.ps_meaning.specs.Gcd.{gcd, lcm}

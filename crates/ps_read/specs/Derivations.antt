@@ -9,7 +9,8 @@ use Rattle.ps_text.specs.Meanings.{formula_of, given_of, IsSignedValue, coeffici
 use Rattle.ps_text.specs.ExpectedTokens.{refusal}
 use Rattle.ps_text.specs.BegunFormulas.{Frame, BegunNot, BegunGroup, BegunAnd, BegunOr, BegunImplies, BegunIff}
 use Rattle.ps_text.specs.PartialParses.{Parse, InPsat, InVersion, InHeadEnd, InItem, InQueryProb, InTextEnd, InDone}
-use Rattle.ps_text.specs.PartialParses.{InTerm, InTermProb, InParen, InOperand, InOperator, InRelation, InBracket, InFirst, InNumber, InComma}
+use Rattle.ps_text.specs.PartialParses.{InTerm, InTermProb, InParen, InOperand, InOperator}
+use Rattle.ps_text.specs.PartialParses.{InRelation, InBracket, InFirst, InNumber, InComma}
 use Rattle.ps_text.specs.PartialParses.{InSecond, InBracketEnd, InItemEnd, Lead, OfSentence, OfQuery, OfTerm}
 use Rattle.ps_text.specs.PartialParses.{Left, OneProb, Terms, sentence_of, state_of, IsParse, parsed}
 use Rattle.ps_problem.specs.Drafts.{formula_at, signed_of, AreBelow}

@@ -14,7 +14,8 @@ use Rattle.ps_read.specs.declared.item_parser.ItemParser.{ItemParser}
 use Rattle.ps_read.specs.declared.parser.Parser.{Parser}
 use Rattle.ps_read.specs.declared.operator.Operator.{Operator}
 use Rattle.ps_read.specs.Pending.{Pending, binding, reduced, waiting}
-use Rattle.ps_read.specs.Machine.{ItemSoFar, Work, Machine, operand_ended, operand_taken, closed, behind_terms, terms_by, with_sentence}
+use Rattle.ps_read.specs.Machine.{ItemSoFar, Work, Machine, operand_ended, operand_taken}
+use Rattle.ps_read.specs.Machine.{closed, behind_terms, terms_by, with_sentence}
 
 -- what waits, and the draft, of a parser of formulas
 abbrev pub pending_of : FormulaParser → Pending

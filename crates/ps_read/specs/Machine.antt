@@ -7,7 +7,8 @@ use Rattle.ps_meaning.specs.declared.side.Side.{Side}
 use Rattle.ps_meaning.specs.declared.side.Side.TheVariants as side
 use Rattle.ps_meaning.specs.Gcd.{gcd}
 use Rattle.ps_text.specs.Tokens.{Token, Word, Number, Sign}
-use Rattle.ps_text.specs.declared.symbol.Symbol.TheVariants.{Close, Bang, Ampersand, Bar, Arrow, DoubleArrow, Equals, LessEquals, Plus, Minus}
+use Rattle.ps_text.specs.declared.symbol.Symbol.TheVariants.{Close, Bang, Ampersand, Bar, Arrow, DoubleArrow}
+use Rattle.ps_text.specs.declared.symbol.Symbol.TheVariants.{Equals, LessEquals, Plus, Minus}
 use Rattle.ps_text.specs.Meanings.{ratio_of, with_sign}
 use Rattle.ps_text.specs.ExpectedTokens.{State, at_start, after}
 use Rattle.ps_text.specs.declared.part.Part.{Part}

@@ -15,7 +15,8 @@ use Rattle.ps_text.specs.declared.version.Version.{Version}
 use Rattle.ps_text.specs.declared.version.Version.TheVariants.{One, Two}
 use Rattle.ps_text.specs.Tokens.{Numeral, Whole, Quotient, numeral_spelling}
 use Rattle.ps_text.specs.Grammar.{FormulaSyntax, Name, Truth, Falsity, Not, Group, And, Or, Implies, Iff, level}
-use Rattle.ps_text.specs.Grammar.{Nests, Prob, Relation, RelationBy, Exactly, AtLeast, AtMost, Within, ItemSyntax, Sentence, Linear, Query}
+use Rattle.ps_text.specs.Grammar.{Nests, Prob, Relation, RelationBy, Exactly, AtLeast, AtMost}
+use Rattle.ps_text.specs.Grammar.{Within, ItemSyntax, Sentence, Linear, Query}
 use Rattle.ps_text.specs.Grammar.{Signed, Term, SignedRelation, TextSyntax, alone, version_digits}
 
 -- in parentheses where the level is below the required one, and only there
@@ -104,7 +105,8 @@ canonical_terms (s ∷ ss) = canonical_term s ∷ canonical_terms ss
 
 -- how an item is written
 abbrev pub canonical_item : Item → ItemSyntax
-canonical_item (Stated (meaning.Plain s)) = Sentence (canonical_prob s.formula s.given) (canonical_relation s.side s.value s.upper)
+canonical_item (Stated (meaning.Plain s)) =
+    Sentence (canonical_prob s.formula s.given) (canonical_relation s.side s.value s.upper)
 canonical_item (Stated (meaning.Linear s)) = Linear (canonical_terms s.terms) (canonical_sum_relation s.side s.value s.upper)
 canonical_item (Asked q) = Query (canonical_prob q.formula q.given)
 
@@ -268,7 +270,8 @@ pub record IsLawfulSum (s : LinearStatement) : Type 0 where
 
 -- names are names, values are reduced and within the limits, and what is written doesn't nest too deep
 abbrev pub IsLawfulItem : Item → Type 0
-IsLawfulItem (Stated (meaning.Plain s)) = IsWritable s.formula × IsWritableGiven s.given × IsReduced s.value × IsUpper s.side s.upper
+IsLawfulItem (Stated (meaning.Plain s)) =
+    IsWritable s.formula × IsWritableGiven s.given × IsReduced s.value × IsUpper s.side s.upper
 IsLawfulItem (Stated (meaning.Linear s)) = IsLawfulSum s
 IsLawfulItem (Asked q) = IsWritable q.formula × IsWritableGiven q.given
 

@@ -2,10 +2,12 @@
 use Rattle.std.specs.Prelude.{◌≡◌, ℕ, suc, ◌*◌, ◌^◌, Bool, true, false, not, ◌&&◌, ◌||◌, ◌==◌, nat_lt, if◌then◌else◌}
 use Rattle.std.specs.Prelude.{bytes_eq, List, [], ◌∷◌, ◌++◌, length, Option, Some, None, is_some, codes}
 use Rattle.std.specs.List.{list_any}
-use Rattle.ps_text.specs.declared.limits.TheConstants.{LONGEST_WORD, MOST_OPEN, GREATEST_DENOMINATOR, MOST_DECIMALS, GREATEST_NUMBER, MOST_TERMS}
+use Rattle.ps_text.specs.declared.limits.TheConstants.{LONGEST_WORD, MOST_OPEN, GREATEST_DENOMINATOR}
+use Rattle.ps_text.specs.declared.limits.TheConstants.{MOST_DECIMALS, GREATEST_NUMBER, MOST_TERMS}
 use Rattle.ps_text.specs.Tokens.{Token, Word, Number, Sign, Numeral, Whole, Quotient, Decimal}
 use Rattle.ps_text.specs.Tokens.{Open, Close, OpenBracket, CloseBracket, Comma, Semicolon, Bang, Ampersand}
-use Rattle.ps_text.specs.Tokens.{Bar, Arrow, DoubleArrow, Equals, GreaterEquals, LessEquals, Plus, Minus, is_the_word, is_the_sign}
+use Rattle.ps_text.specs.Tokens.{Bar, Arrow, DoubleArrow, Equals, GreaterEquals}
+use Rattle.ps_text.specs.Tokens.{LessEquals, Plus, Minus, is_the_word, is_the_sign}
 use Rattle.ps_text.specs.declared.version.Version.{Version}
 use Rattle.ps_text.specs.declared.version.Version.TheVariants.{One, Two}
 use Rattle.ps_text.specs.declared.part.Part.{Part}
@@ -308,7 +310,12 @@ row part.Paren = record {
   fault = λ d t. None;
   next = λ d t. within part.Operand d [];
 }
-row part.Operand = record { what = λ d. what.Formula; expects = λ d t. begins_operand t; fault = depth_fault; next = after_operand }
+row part.Operand = record {
+  what = λ d. what.Formula;
+  expects = λ d t. begins_operand t;
+  fault = depth_fault;
+  next = after_operand;
+}
 row part.Operator = record { what = λ d. what.Operator; expects = follows_operand; fault = depth_fault; next = after_operator }
 row part.Relation = record {
   what = λ d. what.Relation;

@@ -1,7 +1,9 @@
 -- What tokens derive. A derivation is plain data, and its tokens are a function of it.
-use Rattle.std.specs.Prelude.{◌≡◌, ℕ, ◌+◌, ◌-◌, ◌*◌, ◌^◌, ◌<◌, ◌≤◌, Bool, true, false, ◌||◌, IsTrue, List, [], ◌∷◌, ◌++◌, length, Option, Some, None, is_some, codes}
+use Rattle.std.specs.Prelude.{◌≡◌, ℕ, ◌+◌, ◌-◌, ◌*◌, ◌^◌, ◌<◌, ◌≤◌, Bool, true, false, ◌||◌, IsTrue, List}
+use Rattle.std.specs.Prelude.{[], ◌∷◌, ◌++◌, length, Option, Some, None, is_some, codes}
 pub use Rattle.ps_meaning.specs.Names.{is_reserved}
-use Rattle.ps_text.specs.declared.limits.TheConstants.{LONGEST_WORD, MOST_OPEN, GREATEST_DENOMINATOR, MOST_DECIMALS, GREATEST_NUMBER, MOST_TERMS}
+use Rattle.ps_text.specs.declared.limits.TheConstants.{LONGEST_WORD, MOST_OPEN, GREATEST_DENOMINATOR}
+use Rattle.ps_text.specs.declared.limits.TheConstants.{MOST_DECIMALS, GREATEST_NUMBER, MOST_TERMS}
 use Rattle.ps_text.specs.declared.version.Version.{Version}
 use Rattle.ps_text.specs.declared.version.Version.TheVariants.{One, Two}
 use Rattle.ps_text.specs.Tokens.{Token, Word, Number, Sign, Numeral, Whole, Quotient, Decimal}
@@ -153,7 +155,8 @@ abbrev pub relation_tokens_by : {N : Type 0} → (N → List Token) → Relation
 relation_tokens_by number (Exactly x) = Sign Equals ∷ number x
 relation_tokens_by number (AtLeast x) = Sign GreaterEquals ∷ number x
 relation_tokens_by number (AtMost x) = Sign LessEquals ∷ number x
-relation_tokens_by number (Within x y) = Word (codes "in") ∷ Sign OpenBracket ∷ (number x ++ Sign Comma ∷ (number y ++ Sign CloseBracket ∷ []))
+relation_tokens_by number (Within x y) =
+    Word (codes "in") ∷ Sign OpenBracket ∷ (number x ++ Sign Comma ∷ (number y ++ Sign CloseBracket ∷ []))
 
 -- the tokens of a relation
 abbrev pub relation_tokens : Relation → List Token

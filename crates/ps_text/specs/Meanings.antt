@@ -1,11 +1,13 @@
 -- What a derivation states or asks.
-use Rattle.std.specs.Prelude.{◌≡◌, ℕ, zero, suc, ℤ, pos, negsuc, ◌*◌, ◌^◌, Bool, true, false, List, [], ◌∷◌, ◌++◌, length, Option, Some, None, codes}
+use Rattle.std.specs.Prelude.{◌≡◌, ℕ, zero, suc, ℤ, pos, negsuc, ◌*◌, ◌^◌, Bool, true, false, List}
+use Rattle.std.specs.Prelude.{[], ◌∷◌, ◌++◌, length, Option, Some, None, codes}
 use Rattle.std.specs.Int.{IsGcd}
 use Rattle.ps_meaning.specs.Formula as formula
 use Rattle.ps_meaning.specs.declared.side.Side.{Side}
 use Rattle.ps_meaning.specs.declared.side.Side.TheVariants as side
 use Rattle.ps_meaning.specs.Statements as meaning
-use Rattle.ps_meaning.specs.Statements.{Ratio, SignedRatio, size_of, PlainStatement, Summand, LinearStatement, Statement, Question, Item, Stated, Asked}
+use Rattle.ps_meaning.specs.Statements.{Ratio, SignedRatio, size_of, PlainStatement, Summand}
+use Rattle.ps_meaning.specs.Statements.{LinearStatement, Statement, Question, Item, Stated, Asked}
 use Rattle.ps_text.specs.Tokens.{Numeral, Whole, Quotient, Decimal}
 use Rattle.ps_text.specs.Grammar.{FormulaSyntax, Name, Truth, Falsity, Not, Group, And, Or, Implies, Iff}
 use Rattle.ps_text.specs.Grammar.{Prob, Relation, Exactly, AtLeast, AtMost, Within, ItemSyntax, Sentence, Linear, Query, value}

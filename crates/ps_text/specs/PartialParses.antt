@@ -358,7 +358,8 @@ parsed (InOperator es q c fs f) t = operator_parsed es q c fs f t
 parsed (InRelation es l) t = relation_parsed es l t
 parsed (InBracket es l) t = InFirst es l false
 parsed (InFirst es l m) t = value_parsed (InFirst es l true) (λ x. InComma es l (signed m x)) t
-parsed (InNumber es l s m) t = value_parsed (InNumber es l s true) (λ x. InItemEnd es (sentence_of l (relation_of s (signed m x)))) t
+parsed (InNumber es l s m) t =
+    value_parsed (InNumber es l s true) (λ x. InItemEnd es (sentence_of l (relation_of s (signed m x)))) t
 parsed (InComma es l x) t = InSecond es l x false
 parsed (InSecond es l x m) t = value_parsed (InSecond es l x true) (λ y. InBracketEnd es l x (signed m y)) t
 parsed (InBracketEnd es l x y) t = InItemEnd es (sentence_of l (Within x y))

@@ -8,7 +8,7 @@ ghost use Rattle.ps_text.specs.Grammar.{IsWellFormedText, text_tokens};
 ghost use Rattle.ps_text.specs.ExpectedTokens.{State, AreExpected, Passes, at_start};
 ghost use Rattle.ps_text.specs.declared.kind.ReadKind.{ReadKind};
 ghost use Rattle.ps_text.specs.Refusals.{Why};
-ghost use Rattle.ps_text.specs.Versions.{Reads, WhyOf, IsPlain};
+ghost use Rattle.ps_text.specs.Versions.{PassIsRead, WhyIsTheVersions, IsPlain};
 ghost use Rattle.ps_text.specs.PartialParses.{Parse, InPsat, state_of, parsed_tokens};
 ghost use Rattle.ps_text.specs.PartialParses.{TakesToken};
 ghost use Rattle.ps_meaning.specs.Statements.{Item, statements_of, questions_of};
@@ -38,12 +38,13 @@ pub fn bytes_are_cut()
     ensures { (bytes : List ℕ) → Cut bytes }
 {}
 
-/// `+` and `-` are tokens in version 2 alone, and in version 1 nothing is expected of what is linear. Bytes are cut, and tokens pass, as they do by the
-/// tokens of the version that is known where they stand; and what is left is refused there for the
-/// same kind, where no blank and no comment stands.
+/// `+` and `-` are tokens in version 2 alone, and in version 1 nothing is expected of what is
+/// linear. Bytes are cut, and tokens pass, as they do by the tokens of the version that is known
+/// where they stand; and what is left is refused there for the same kind, where no blank and no
+/// comment stands.
 pub fn tokens_are_the_versions()
-    ensures read { (d e : State) (pieces : List Piece) (rest : List ℕ) → (Cuts pieces rest × Passes d (tokens pieces) e) ↔ Reads d pieces rest e }
-    ensures refused { (d : State) (rest : List ℕ) (kind : ReadKind) → IsBare rest → Why d rest kind ↔ WhyOf d rest kind }
+    ensures read { PassIsRead }
+    ensures refused { WhyIsTheVersions }
     ensures plain { (tokens : List Token) (d : State) → Passes at_start tokens d → IsPlain d }
 {}
 

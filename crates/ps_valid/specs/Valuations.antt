@@ -52,6 +52,10 @@ pub record Covers (vs : List Valuation) (r : Row) : Type 0 where
   pub nodes : All (λ t. HaveNode vs t.0) r.terms
   pub small : row_size r ≤ MOST_SIZES
 
+-- the sum of terms over entries over nodes: of each node the weight times its number
+abbrev pub terms_sum : List Entry → List (ℕ × ℤ) → ℤ
+terms_sum d ts = sum_of_weights (atom_terms ts) d
+
 -- the sum of a row over entries over nodes
 abbrev pub row_sum : List Entry → Row → ℤ
 row_sum d r = (r.base *ℤ total d) +ℤ sum_of_weights (atom_terms r.terms) d

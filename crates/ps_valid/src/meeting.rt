@@ -2,7 +2,7 @@
 ghost use Rattle.std.specs.Prelude.{◌≡◌, ◌≤◌, ◌+◌, ◌*◌, ◌↔◌, pos, ◌≤ℤ◌, ◌+ℤ◌, ◌*ℤ◌, All, length};
 ghost use Rattle.std.specs.Prelude.{IfSome, IsTrue, unsigned_abs};
 ghost use Rattle.ps_meaning.specs.Distribution.{weight, total};
-ghost use Rattle.ps_meaning.specs.Bounds.{Compares, sum_of_weights};
+ghost use Rattle.ps_meaning.specs.Bounds.{Compares};
 ghost use Rattle.ps_problem.specs.Problems.{terms_size};
 ghost use Rattle.ps_problem.specs.Rows.{IsRow};
 ghost use Rattle.ps_problem.specs.declared.limits.TheConstants.{MOST_BOUNDS, MOST_SIZES};
@@ -12,7 +12,7 @@ ghost use Rattle.ps_meaning.specs.declared.limits.TheConstants.{PRINTED_LIMIT};
 ghost use Rattle.ps_valid.specs.Limits.{IsAmount, IsSmallModel};
 ghost use Rattle.ps_answer.specs.declared.limits.TheConstants.{MOST_ENTRIES};
 ghost use Rattle.ps_valid.specs.Valuations.{AreValuations, Covers, HaveNode, IsTableOf, MeetsAt};
-ghost use Rattle.ps_valid.specs.Valuations.{node_at, valued_entries, atom_terms};
+ghost use Rattle.ps_valid.specs.Valuations.{node_at, valued_entries, terms_sum};
 ghost use Rattle.ps_valid.specs.Tests.{FindsMissed, FindsMissedAt};
 
 use crate::truth::{Valuation, weight_of};
@@ -61,8 +61,7 @@ fn row_sum(valued: &[Valuation], whole: i128, base: i64, terms: &[(u32, i64)]) -
     requires nodes { All (λ t. HaveNode valued.now t.0) terms.now }
     requires numbers { unsigned_abs base + terms_size terms.now ≤ MOST_SIZES }
     requires whole { IsAmount whole }
-    ensures { result ≡ (base *ℤ whole)
-        +ℤ sum_of_weights (atom_terms terms.now) (valued_entries valued.now) }
+    ensures { result ≡ (base *ℤ whole) +ℤ terms_sum (valued_entries valued.now) terms.now }
 {
     let mut sum = times(base, whole);
     for term in terms {

@@ -52,7 +52,7 @@ pub fn evaluate(
 ) -> Result<Vec<Valuation>, NoMemory>
     requires atoms { All (λ w. All (AtomBelow (length w.world)) formulas.now) worlds.now }
     requires small { AreSmall worlds.now }
-    ensures table { IfOk result (λ valued. IsTableOf formulas.now (entries worlds.now) valued.items) }
+    ensures table { IfOk result (λ v. IsTableOf formulas.now (entries worlds.now) v.items) }
 {
     let mut valued = Vec::new(alloc);
     for w in worlds {

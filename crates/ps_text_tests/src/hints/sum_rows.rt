@@ -128,7 +128,7 @@ pub(super) const ROWS: [Row; 23] = [
         message: "f:2:1: with this a sentence's numbers are too large
   1000000 P(a) + 1000000 P(b) >= 1;
   ^
-  hint: round them: their common denominator is at most 1000000, and over it they sum to at most 2000000
+  hint: round them: over a denominator of at most 1000000 they sum to at most 2000000
 ",
     },
     Row {
@@ -136,7 +136,7 @@ pub(super) const ROWS: [Row; 23] = [
         message: "f:2:14: found `-`, expected `=`, `>=`, `<=` or `in`
   P(a given b) - P(b) >= 0;
                ^
-  hint: no given stands in a sum: write P(a & c) - P(b & c) >= 0 for P(a given c) >= P(b given c)
+  hint: in a sum write P(a & c) - P(b & c) >= 0 for P(a given c) >= P(b given c)
 ",
     },
     Row {
@@ -144,7 +144,7 @@ pub(super) const ROWS: [Row; 23] = [
         message: "f:2:12: found `given`, expected `&`, `|`, `->`, `<->` or `)`
   P(a) - P(b given c) >= 0;
              ^
-  hint: no given stands in a sum: write P(a & c) - P(b & c) >= 0 for P(a given c) >= P(b given c)
+  hint: in a sum write P(a & c) - P(b & c) >= 0 for P(a given c) >= P(b given c)
 ",
     },
     Row {

@@ -385,8 +385,8 @@ pub(super) const SUMS: [Sum; 19] = [
     },
     Sum {
         line: "P(a given b) + P(c) <= 1;",
-        one: "no given stands in a sum",
-        two: Some("no given stands in a sum"),
+        one: "in a sum write P(a & c) - P(b & c)",
+        two: Some("in a sum write P(a & c) - P(b & c)"),
     },
     Sum {
         line: "P(a) = P(b) + P(c);",
