@@ -139,7 +139,7 @@ pub record TermsNumbered (names : List Name) (start : List (Formula Name)) (m : 
 abbrev pub NumbersTerms : Drafted → Building → ℕ → List Term → Building → Result (List (ℕ × ℤ)) Fault → Type 0
 NumbersTerms d old m ts new result = (h : Built d.names old.atoms old.formulas)
     → GivesTerms d.names (with_formulas h.formulas (numbered_in_terms (map (summand_at d.formulas) ts))) m
-        (map (summand_at d.formulas) ts) new result
+    (map (summand_at d.formulas) ts) new result
 
 -- what is expected was built, and the question has these numbers; or there is the excess that is expected
 abbrev pub GivesQuery : List Name → Result (List (Formula Name)) Excess → Question → List ℕ → List Node

@@ -30,7 +30,7 @@ fn plain_row(alloc: Global, bound: Bound) -> Result<Row, NoMemory>
 }
 
 // A copy of terms.
-fn copied(alloc: Global, terms: &LinearTerms) -> Result<LinearTerms, NoMemory>
+fn copy_of(alloc: Global, terms: &LinearTerms) -> Result<LinearTerms, NoMemory>
     ensures { IfOk result (λ r. r ≡ terms.now) }
 {
     Ok(List::from_vec(terms.as_slice().to_vec(alloc)?))
@@ -41,7 +41,7 @@ fn linear_row(alloc: Global, linear: &Linear, upper: bool) -> Result<Row, NoMemo
     requires { unsigned_abs (right_at linear.now upper) ≤ MOST_SIZES }
     ensures { IfOk result (λ r. r ≡ row_at (LinearIn linear.now upper)) }
 {
-    let terms = copied(alloc, &linear.terms)?;
+    let terms = copy_of(alloc, &linear.terms)?;
     Ok(Row {
         side: linear.side_of(upper),
         unit: linear.scale,

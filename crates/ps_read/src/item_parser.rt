@@ -147,7 +147,7 @@ impl ItemParser {
             Token::Word(_) => self.item.linear = false,
             Token::Number(_) => {
                 self.begin_linear(false);
-                self.item.coefficient = Value::of(token).signed(false);
+                self.item.coefficient = Value::of(token).with_sign(false);
             }
             Token::Sign(_) => self.begin_linear(true),
         }
@@ -172,7 +172,7 @@ impl ItemParser {
             Token::Number(_) => Value::of(token),
             _ => Value::one(),
         };
-        self.item.coefficient = value.signed(self.item.minus);
+        self.item.coefficient = value.with_sign(self.item.minus);
     }
 
     // The left side goes on with a term behind a sign.
@@ -212,7 +212,7 @@ impl ItemParser {
         requires { IsWeight (number_in (token_of token.now)) }
         ensures { result ≡ signed (work_of self.now).item.minus (value_in (token_of token.now)) }
     {
-        Value::of(token).signed(self.item.minus)
+        Value::of(token).with_sign(self.item.minus)
     }
 
     // At the number of a relation, or a `-` before it.

@@ -33,10 +33,10 @@ impl ItemSoFar {
             formula: 0,
             given: None,
             side: Side::Exactly,
-            least: Value::one().signed(false),
+            least: Value::one().with_sign(false),
             linear: false,
             minus: false,
-            coefficient: Value::one().signed(false),
+            coefficient: Value::one().with_sign(false),
         }
     }
 
@@ -56,7 +56,7 @@ impl ItemSoFar {
     {
         Term {
             formula: self.formula,
-            coefficient: Value::one().signed(false),
+            coefficient: Value::one().with_sign(false),
         }
     }
 }

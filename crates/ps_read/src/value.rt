@@ -56,7 +56,7 @@ impl Value {
     }
 
     /// The fraction behind a `-` or none.
-    pub(crate) fn signed(self, minus: bool) -> Signed
+    pub(crate) fn with_sign(self, minus: bool) -> Signed
         requires { self.num ≤ MOST_VALUE }
         ensures { result ≡ signed minus (ratio_of self) }
     {
