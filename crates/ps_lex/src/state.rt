@@ -1,5 +1,5 @@
 //! What is expected between two tokens.
-ghost use Rattle.std.specs.Prelude.{◌≡◌, nat_lt, OnOk, OnErr, None};
+ghost use Rattle.std.specs.Prelude.{◌≡◌, ◌<◌, nat_lt, OnOk, OnErr, None};
 ghost use Rattle.std.specs.List.{list_any};
 ghost use Rattle.ps_text.specs.declared.limits.TheConstants.{MOST_TERMS};
 ghost use Rattle.ps_text.specs.ExpectedTokens.{at_start, in_version, in_term, in_relation};
