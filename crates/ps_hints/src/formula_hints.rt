@@ -6,7 +6,7 @@ ghost use Rattle.ps_text.specs.declared.kind.What.TheVariants as what;
 
 use crate::found::number_at_front;
 use crate::hint::Hint;
-use crate::items::Item;
+use crate::items::{Item, version_of};
 use crate::mistypes::is_mistyped;
 use crate::sign_hints::sign_hint;
 use crate::spot::Spot;
@@ -44,7 +44,7 @@ fn operator_word(spot: &Spot) -> Option<Hint>
         Some(Hint::Implies)
     } else if is_any(word, &["given"]) {
         Some(if Item::before(spot).is_sum() {
-            Hint::GivenInSum
+            Hint::GivenInSum(version_of(spot.before))
         } else {
             Hint::OneGiven
         })

@@ -69,7 +69,7 @@ pub enum Hint {
     /// `P(a & b) / P(b)`.
     Quotient,
     /// `given` in a linear sentence.
-    GivenInSum,
+    GivenInSum(Version),
     /// `query P(a) + P(b)`.
     QuerySum,
     /// `P(a) - 1/2 >= 0`.
@@ -227,6 +227,17 @@ fn left_side_text(version: Version) -> &'static str
     }
 }
 
+// What to write for a comparison of two probabilities with the same condition.
+fn given_in_sum_text(version: Version) -> &'static str
+    ensures { 0 < length result.now }
+{
+    match version {
+        Version::One =>
+            "begin the text with psat 2; and write P(a & c) - P(b & c) >= 0, with no given",
+        Version::Two => "in a sum write P(a & c) - P(b & c) >= 0 for P(a given c) >= P(b given c)",
+    }
+}
+
 impl Hint {
     /// The hint's words.
     pub fn text(self) -> &'static str
@@ -266,8 +277,7 @@ impl Hint {
             Hint::Times => "write 2 P(a) for 2 * P(a)",
             Hint::Product => "probabilities aren't multiplied: P(a & b) is the probability of both",
             Hint::Quotient => "write P(a given b) for P(a & b) / P(b), and 1/2 P(a) for P(a) / 2",
-            Hint::GivenInSum =>
-                "in a sum write P(a & c) - P(b & c) >= 0 for P(a given c) >= P(b given c)",
+            Hint::GivenInSum(version) => given_in_sum_text(version),
             Hint::QuerySum => "a query asks for one P(..): ask for each by itself",
             Hint::NumberAlone =>
                 "a number without P(..) stands behind the relation: P(a) - P(b) >= 1/2",

@@ -55,7 +55,7 @@ pub(crate) fn relation_hint(spot: &Spot) -> Hint
     ensures { IsHintFor result (kind.Expected what.Relation) }
 {
     if spot.begins_sign() {
-        Hint::GivenInSum
+        Hint::GivenInSum(version_of(spot.before))
     } else if spot.begins_any(&["&", "|", "->", "<->", "given"]) {
         Hint::Outside
     } else if spot.begins(")") {

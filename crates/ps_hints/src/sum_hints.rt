@@ -27,7 +27,7 @@ pub(crate) fn sum_hint(spot: &Spot) -> Hint
     if item.is_query() {
         Hint::QuerySum
     } else if item.has_given() {
-        Hint::GivenInSum
+        Hint::GivenInSum(version_of(spot.before))
     } else {
         Hint::Sum(version_of(spot.before))
     }

@@ -194,7 +194,7 @@ fn step_decimal(all: Digits, decimals: u8, began: Position, here: Position, byte
     )
 }
 
-// A `>` goes on with a `-`, which else is a symbol of its own.
+// A `-` goes on with a `>`, or else is a symbol of its own.
 fn step_minus(began: Position, here: Position, byte: u8) -> Step
     ensures step { result ≡ stepped_in Mode.Minus began here byte }
     ensures capped { IsCappedMode result.mode }

@@ -385,7 +385,7 @@ pub(super) const SUMS: [Sum; 19] = [
     },
     Sum {
         line: "P(a given b) + P(c) <= 1;",
-        one: "in a sum write P(a & c) - P(b & c)",
+        one: "psat 2; and write P(a & c) - P(b & c) >= 0, with no given",
         two: Some("in a sum write P(a & c) - P(b & c)"),
     },
     Sum {
