@@ -3,7 +3,7 @@ use Rattle.std.proofs.Common.{◌≡◌, ◌<◌, ◌≤◌, ◌+◌, ◌-◌, �
 use Rattle.std.specs.Prelude.{◌||◌}
 use Rattle.std.proofs.lemmas.Bool.{true≢false}
 use Rattle.std.proofs.Math.Seq.{drop-cons}
-use Rattle.std.proofs.lemmas.List.{length-append, length-drop}
+use Rattle.std.proofs.lemmas.List.{drop-drop, length-append, length-drop}
 use Rattle.std.proofs.lemmas.List.Elements.{All-nil, All-cons, All-head, All-tail}
 use Rattle.ps_meaning.specs.Bounds as meaning
 use Rattle.ps_problem.specs.declared.sentence.Sentence.{Sentence}
@@ -197,18 +197,6 @@ module _ (ys : List ℤ) (place bounds : ℕ) where
   pub other_none : (at : ℕ) → place + bounds ≤ at → TellsFrom at → false ≡ has_other bounds (drop place ys)
   other_none at h tells = let none : 0 ≡ place + bounds - at = omega (arith, h) in ap (λ n. has_other n (drop at ys)) none ∙ tells
 
-abbrev no_numbers : List ℤ
-no_numbers = []
-
-drop_none : (n : ℕ) → drop n no_numbers ≡ no_numbers
-drop_none zero = refl
-drop_none (suc n) = refl
-
-drop_drop : (ys : List ℤ) (at n : ℕ) → drop n (drop at ys) ≡ drop (at + n) ys
-drop_drop ys zero n = refl
-drop_drop [] (suc at) n = drop_none n
-drop_drop (y ∷ ys) (suc at) n = drop_drop ys at n
-
 -- a sentence more
 pub used_next : (ss : List Sentence) (ys : List ℤ) (i at n : ℕ) (s : Sentence) (b : Bool) (used more all : List Bool) → i < length ss → n ≡ length (bounds_of_sentence (get_or ss i s))
     → b ≡ has_other n (drop at ys) → more ≡ used ++ b ∷ [] → used ++ used_of (drop i ss) (drop at ys) ≡ all → more ++ used_of (drop (i + 1) ss) (drop (at + n) ys) ≡ all
@@ -217,7 +205,7 @@ used_next ss ys i at n s b used more all inside count is grown h =
     let m = length (bounds_of_sentence (get_or ss i s)) in
     let next : i + 1 ≡ suc i = omega arith in
     let head : has_other m (drop at ys) ≡ b = ap (λ k. has_other k (drop at ys)) (sym count) ∙ sym is in
-    let tail : used_of rest (drop m (drop at ys)) ≡ used_of rest (drop (at + n) ys) = ap (used_of rest) (ap (λ k. drop k (drop at ys)) (sym count) ∙ drop_drop ys at n) in
+    let tail : used_of rest (drop m (drop at ys)) ≡ used_of rest (drop (at + n) ys) = ap (used_of rest) (ap (λ k. drop k (drop at ys)) (sym count) ∙ drop-drop n at ys) in
     let split : used_of (drop i ss) (drop at ys) ≡ (b ∷ []) ++ used_of rest (drop (at + n) ys) =
     ap (λ ts. used_of ts (drop at ys)) (drop-cons ss i s inside) ∙ (λ j. head j ∷ tail j) in
     rw next (part-next used (b ∷ []) (used_of (drop i ss) (drop at ys)) (used_of rest (drop (at + n) ys)) all more grown split h)
