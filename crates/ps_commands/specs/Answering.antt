@@ -101,7 +101,7 @@ ProblemsAreUpgraded = (words : List (String Global)) (old new : Ends) (status : 
     → old.source.bytes ≡ Some bytes
     → length bytes ≤ MOST_PROBLEM → SpellsWhole bytes p
     → HasWritten (λ o. o ≡ record { text = upgraded_text (items_from p); status = Done }) status old new
-      ⊎ IsOutOfMemory status old new
+    ⊎ IsOutOfMemory status old new
 
 -- and for `check`, where a problem stands at the front of bytes within the limit, it is what is due for the problem and the bytes
 -- behind it
