@@ -18,7 +18,7 @@ use Rattle.ps_ask.specs.Conditions.{IsIdle, condition_of}
 abbrev query_of : Bound → Query
 query_of b = record { formula = b.formula; given = b.given; both = b.both }
 
-rest_of : Option Bound → List BoundIn
+abbrev rest_of : Option Bound → List BoundIn
 rest_of None = []
 rest_of (Some b) = PlainIn b ∷ []
 

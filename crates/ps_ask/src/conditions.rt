@@ -1,5 +1,5 @@
 //! Conditions of sentences that no distribution gives weight.
-ghost use Rattle.std.specs.Prelude.{◌≡◌, true, IfOk};
+ghost use Rattle.std.specs.Prelude.{◌≡◌, true, IfOk, OnOk};
 ghost use Rattle.ps_problem.specs.Problems.{IsSentence};
 ghost use Rattle.ps_ask.specs.Conditions.{AreIdleWarnings, IsIdle, condition_of};
 ghost use Rattle.ps_ask.specs.Shown.{AreSettings};
@@ -144,9 +144,37 @@ fn unweighed_places(
     Ok(places)
 }
 
+// Adds a warning about the sentence at a place where it is shown in time that no distribution gives
+// its condition weight.
+#[tactic(auto, using(ps_spoken::proofs::ClashLists::sentence_there))]
+fn note_idle<W: Company>(
+    alloc: Global,
+    settings: Settings,
+    trials: &Trials<'_>,
+    place: usize,
+    line: Option<u32>,
+    noted: &mut IdleWarnings,
+    timed: &mut InTime<'_, Engine, W>,
+) -> Result<(), NoMemory>
+    requires settings { AreSettings settings }
+    requires noted { AreIdleWarnings trials.now noted.old }
+    ensures { OnOk result (AreIdleWarnings trials.now noted.new) }
+{
+    let problem = trials.problem();
+    let Some(sentence) = problem.sentences().get(place) else {
+        return Ok(());
+    };
+    if !is_idle(alloc, settings, trials, sentence, timed)? {
+        return Ok(());
+    }
+    let warning = idle_warning(alloc, line, problem, sentence)?;
+    noted.warnings.push(warning)?;
+    noted.sentences.push(place)?;
+    Ok(())
+}
+
 // A warning about each sentence at these places whose condition no distribution gives weight, as far
 // as that is shown in time.
-#[tactic(auto, using(ps_spoken::proofs::ClashLists::sentence_there))]
 fn idle_among<W: Company>(
     alloc: Global,
     settings: Settings,
@@ -158,23 +186,16 @@ fn idle_among<W: Company>(
     requires settings { AreSettings settings }
     ensures { IfOk result (AreIdleWarnings trials.now) }
 {
-    let problem = trials.problem();
     let lines = sentence_lines(alloc, input.bytes)?;
-    let mut sentences = List::new(alloc);
-    let mut warnings = Vec::new(alloc);
+    let mut noted = IdleWarnings {
+        sentences: List::new(alloc),
+        warnings: Vec::new(alloc),
+    };
     for place in places {
-        if let Some(sentence) = problem.sentences().get(*place) {
-            if is_idle(alloc, settings, trials, sentence, timed)? {
-                let line = lines.get(*place).copied();
-                warnings.push(idle_warning(alloc, line, problem, sentence)?)?;
-                sentences.push(*place)?;
-            }
-        }
+        let line = lines.get(*place).copied();
+        note_idle(alloc, settings, trials, *place, line, &mut noted, timed)?;
     }
-    Ok(IdleWarnings {
-        sentences,
-        warnings,
-    })
+    Ok(noted)
 }
 
 /// The warnings about sentences whose condition no distribution gives weight, where the verdict is

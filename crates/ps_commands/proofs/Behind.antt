@@ -1,7 +1,8 @@
 -- A whole text, a line feed and bytes that begin with no blank and no comment: the text is read at the front, up to those bytes.
 use Rattle.std.proofs.Common.{◌≡◌, ℕ, zero, suc, ◌+◌, false, List, [], ◌∷◌, ◌++◌, length, take, drop, refl, sym, ap, subst, ◌∙◌, arith, append_assoc, append-nil, length-append}
 use Rattle.ps_meaning.specs.Names.{is_digit}
-use Rattle.ps_text.specs.Tokens.{Minus, Token, Word, Number, Sign, Whole, Quotient, Decimal}
+use Rattle.ps_text.specs.declared.symbol.Symbol.TheVariants.{Minus}
+use Rattle.ps_text.specs.Tokens.{Token, Word, Number, Sign, Whole, Quotient, Decimal}
 use Rattle.ps_text.specs.Pieces.{Piece, Blank, Comment, Spelled, EndsLine, Fits, texts, tokens, Cuts, IsBare}
 use Rattle.ps_text.specs.Fronts.{IsTextFront}
 use Rattle.ps_text.proofs.Spans.{starts, starts_behind}
