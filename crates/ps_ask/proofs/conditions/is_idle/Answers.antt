@@ -1,3 +1,4 @@
+use Rattle.std.proofs.Common.{refl}
 use Rattle.ps_ask.proofs.IdleLaws.{idle_sentence}
 use Rattle.ps_ask.proofs.conditions.is_idle.Goals as goal
 
