@@ -1,5 +1,4 @@
 //! Answers problems one after the other.
-ghost use Rattle.std.specs.Prelude.{Unit};
 ghost use Rattle.ps_ask.specs.Shown.{AreSettings};
 
 use crate::company::Beside;

@@ -1,5 +1,5 @@
 //! What words ask for, and the number behind several answers.
-ghost use Rattle.std.specs.Prelude.{IfSome, Unit};
+ghost use Rattle.std.specs.Prelude.{IfSome};
 ghost use Rattle.ps_ask.specs.Shown.{AreSettings};
 ghost use Rattle.psat_ask.specs.Requests.{HasSettings};
 
