@@ -121,6 +121,18 @@ impl<'a> Beside<'a> {
         true
     }
 
+    // Puts blanks over the line that is shown.
+    fn wipe(&mut self)
+        ensures { self.new.has_refused ≡ self.old.has_refused }
+    {
+        if self.told > 0 {
+            if let Ok(blanks) = " ".repeat(self.rt.alloc(), self.told) {
+                let _ = eprint!(self.rt; "\r{blanks}\r");
+            }
+            self.told = 0;
+        }
+    }
+
     // Writes the line that tells what is sought, and how far it is, as much of it as has room. The
     // cursor goes back to its start, so that what is written next stands over it.
     fn write_line(&mut self, figures: &str)
@@ -129,7 +141,7 @@ impl<'a> Beside<'a> {
         let Some(columns) = self.columns else {
             return;
         };
-        self.clear();
+        self.wipe();
         let Ok(words) = words_of(self.rt.alloc(), self.sought) else {
             return;
         };
@@ -187,11 +199,6 @@ impl<'a> Company for Beside<'a> {
     }
 
     fn clear(&mut self) {
-        if self.told > 0 {
-            if let Ok(blanks) = " ".repeat(self.rt.alloc(), self.told) {
-                let _ = eprint!(self.rt; "\r{blanks}\r");
-            }
-            self.told = 0;
-        }
+        self.wipe();
     }
 }
