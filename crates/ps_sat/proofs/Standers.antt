@@ -84,11 +84,13 @@ few-stand (e ∷ es) known base h = by_reason e.reason refl
   where
     others : (id : ℕ) → e.reason ≡ Some id → (i : ℕ) → base + i ≢ id → e.reason ≢ Some (base + i)
     others id r i ne q = ne (let z : Some id ≡ Some (base + i) = sym r ∙ q in let y : id ≡ base + i = cc z in sym y)
+
     less : (id : ℕ) → e.reason ≡ Some id → (i : ℕ) (c : Constraint) → get_or (set known (id - base) None) i None ≡ Some c → IsReasonIn es (base + i)
     less id r i c q = elim (cases_eq i (id - base)) [
       | inl same ↦ absurd (set_own known (id - base) c (subst (λ n. get_or (set known (id - base) None) n None ≡ Some c) same q))
       | inr ne ↦ behind es e (base + i) (h i c (sym (set_else known (id - base) i ne) ∙ q)) (others id r i (λ z. ne (omega (arith, z))))
     ]
+
     by_reason : (o : Option ℕ) → e.reason ≡ o → standers known ≤ length (e ∷ es)
     by_reason None r = omega (arith, few-stand es known base (λ i c q. behind es e (base + i) (h i c q) (λ z. (let y : None ≡ Some (base + i) = sym r ∙ z in cc y))))
     by_reason (Some id) r = omega (arith, few-stand es (set known (id - base) None) base (less id r), gone_most known (id - base))

@@ -39,33 +39,33 @@ learned-at k cs given id c ek eg less at d = record {
 }
 
 -- ---- more clauses were forgotten
-forgets-then : (t : Trail) (below : ℕ) (k m k' : Keeping) (as bs : List ℕ) → Forgets t below k as m → Forgets t below m bs k' → Forgets t below k (as ++ bs) k'
-forgets-then t below k m k' [] bs e h = subst (λ z. Forgets t below z bs k') e h
-forgets-then t below k m k' (a ∷ as) bs g h = (g.0, g.1, g.2, forgets-then t below g.0 m k' as bs g.3 h)
+forgets-then : (t : Trail) (below : ℕ) (k m k' : Keeping) (xs ys : List ℕ) → Forgets t below k xs m → Forgets t below m ys k' → Forgets t below k (xs ++ ys) k'
+forgets-then t below k m k' [] ys e h = subst (λ z. Forgets t below z ys k') e h
+forgets-then t below k m k' (a ∷ xs) ys g h = (g.0, g.1, g.2, forgets-then t below g.0 m k' xs ys g.3 h)
 
-map_then : (as bs : List ℕ) → map Delete (as ++ bs) ≡ map Delete as ++ map Delete bs
-map_then [] bs = refl
-map_then (a ∷ as) bs = ap (λ (ss : List Step). Delete a ∷ ss) (map_then as bs)
+map_then : (xs ys : List ℕ) → map Delete (xs ++ ys) ≡ map Delete xs ++ map Delete ys
+map_then [] ys = refl
+map_then (a ∷ xs) ys = ap (λ (ss : List Step). Delete a ∷ ss) (map_then xs ys)
 
 same_steps : (o : Option (List Step)) → o ≡ option_map (λ ss. ss ++ []) o
 same_steps None = refl
 same_steps (Some ss) = ap Some (sym (append-nil ss))
 
-more_steps : (o : Option (List Step)) (as bs : List Step) → option_map (λ ss. ss ++ bs) (option_map (λ ss. ss ++ as) o) ≡ option_map (λ ss. ss ++ (as ++ bs)) o
-more_steps None as bs = refl
-more_steps (Some ss) as bs = ap Some (append_assoc ss as bs)
+more_steps : (o : Option (List Step)) (xs ys : List Step) → option_map (λ ss. ss ++ ys) (option_map (λ ss. ss ++ xs) o) ≡ option_map (λ ss. ss ++ (xs ++ ys)) o
+more_steps None xs ys = refl
+more_steps (Some ss) xs ys = ap Some (append_assoc ss xs ys)
 
 grows-none : (told : Telling) → Grows told told []
 grows-none told = λ b. (b, refl, same_steps told.steps)
 
-grows-then : (old mid new : Telling) (as bs : List Step) → Grows old mid as → Grows mid new bs → Grows old new (as ++ bs)
-grows-then old mid new as bs g h = λ b.
+grows-then : (old mid new : Telling) (xs ys : List Step) → Grows old mid xs → Grows mid new ys → Grows old new (xs ++ ys)
+grows-then old mid new xs ys g h = λ b.
     let x = g b in
     let y = h x.0 in
-    (y.0, y.1 ∙ x.1, y.2 ∙ ap (option_map (λ ss. ss ++ bs)) x.2 ∙ more_steps old.steps as bs)
+    (y.0, y.1 ∙ x.1, y.2 ∙ ap (option_map (λ ss. ss ++ ys)) x.2 ∙ more_steps old.steps xs ys)
 
-grows-stays : (old mid new : Telling) (as : List Step) → Grows old mid as → Stays mid new → Grows old new as
-grows-stays old mid new as g h = λ b.
+grows-stays : (old mid new : Telling) (xs : List Step) → Grows old mid xs → Stays mid new → Grows old new xs
+grows-stays old mid new xs g h = λ b.
     let x = g b in
     let y = h x.0 in
     (y.0, y.1 ∙ x.1, y.2 ∙ x.2)
@@ -91,12 +91,16 @@ some-then t below k m k' old mid new n count g h = record {
 
 -- before an error
 pub some-stays : (t : Trail) (below most : ℕ) (k m k' : Keeping) (old mid new : Telling) (count : ℕ) → count ≤ most → HasForgottenSome t below (k, old) (m, mid) count → k' ≡ m → Stays mid new → HasForgottenUpTo t below most (k, old) (k', new)
-some-stays t below most k m k' old mid new count few h same stays = (count, few, record {
-  ids = h.ids;
-  forgets = subst (λ z. Forgets t below k h.ids z) (sym same) h.forgets;
-  grows = grows-stays old mid new (map Delete h.ids) h.grows stays;
-  size = h.size;
-})
+some-stays t below most k m k' old mid new count few h same stays = (
+  count,
+  few,
+  record {
+    ids = h.ids;
+    forgets = subst (λ z. Forgets t below k h.ids z) (sym same) h.forgets;
+    grows = grows-stays old mid new (map Delete h.ids) h.grows stays;
+    size = h.size;
+  },
+)
 
 pub on-err : {T E : Type 0} → (r : Result T E) (P : Type 0) → P → OnErr r P
 on-err (Ok x) P p = tt

@@ -38,8 +38,8 @@ pub enum Outcome {
 /// from each conflict (J. P. Marques-Silva, K. A. Sakallah, "GRASP", 1999). At most `conflicts`
 /// clauses with literals are learned, and at most 2 to the number of variables. Each goes to the log
 /// as a step that is lawful there, and none includes a clause of the form or a learned one that
-/// stands. At most half of them are deleted again, none while it is a reason, and at most 2,000 more
-/// than half stand.
+/// stands. At most half of them are deleted again, none while it is a reason, and at most 2,000
+/// more than half stand.
 ///
 /// What hints alone refute is refuted at every limit. `Spent` comes only where one more clause is
 /// due: after the learned ones no contradiction is lawful, and a clause of opposites of atoms'
@@ -47,8 +47,8 @@ pub enum Outcome {
 ///
 /// After each outcome the log is whole and holds this goal and the steps of this search: after
 /// `Refuted` the last one, and no other, is a contradiction, and after `Spent` `conflicts` of them
-/// are clauses. The log was begun just once; before an error it may not have been. `LogFault`, and no other
-/// answer, raises the log's count of faults, by one.
+/// are clauses. The log was begun just once; before an error it may not have been. `LogFault`, and
+/// no other answer, raises the log's count of faults, by one.
 pub fn search<S: ProofSink>(
     alloc: Global,
     base: &ClauseForm,
@@ -163,7 +163,13 @@ fn learn_all<S: ProofSink>(
         // Read for its clauses: each literal of a trail is of a variable of its own, and levels rise.
         let _entries = trail.entries();
         let found = learn(alloc, kept.known(), &trail, conflict)?;
-        let Learned { id, lits, hints, level, marks } = found;
+        let Learned {
+            id,
+            lits,
+            hints,
+            level,
+            marks,
+        } = found;
         let last = lits.as_slice().is_empty();
         if !last && learned == conflicts {
             return Ok(Outcome::Spent { learned });
