@@ -67,9 +67,19 @@ HasAnswer (Sides lower upper) = ⊥
 abbrev pub KeepsSide : Option SideAnswer → Option SideAnswer → Type 0
 KeepsSide found side = IfSome found (λ a. side ≡ Some a)
 
--- no side that was found before is lost: the answer is known, or each of these sides still is
+-- a side that was found is the one that is answered
+abbrev pub ShowsSide : Option SideAnswer → SideAnswer → Type 0
+ShowsSide found side = IfSome found (λ a. side ≡ a)
+
+-- each side that was found is the answer's: an open answer has none, and one by which the evidence is impossible needs none
+abbrev pub ShowsSides : Option SideAnswer → Option SideAnswer → QueryAnswer → Type 0
+ShowsSides lower upper (query.Bounds l les u ues) = ShowsSide lower l × ShowsSide upper u
+ShowsSides lower upper (query.Impossible d) = Unit {0}
+ShowsSides lower upper (query.Open cause) = IfSome lower (λ a. ⊥) × IfSome upper (λ a. ⊥)
+
+-- no side that was found before is lost: the answer shows each of these sides, or it is still known
 abbrev pub KeepsSides : Option SideAnswer → Option SideAnswer → Known → Type 0
-KeepsSides lower upper (Answered part) = Unit {0}
+KeepsSides lower upper (Answered part) = ShowsSides lower upper part.answer
 KeepsSides lower upper (Sides l u) = KeepsSide lower l × KeepsSide upper u
 
 -- nothing that was known before is lost: an answer stays one, and of sides none is lost
