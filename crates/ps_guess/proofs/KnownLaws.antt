@@ -64,7 +64,7 @@ still P (Some a) o h k = subst (λ (x : Option SideAnswer). IfSome x P) h k
 
 shows_still : (lower upper l u : Option SideAnswer) (answer : QueryAnswer) → IfSome lower (λ a. l ≡ Some a) → IfSome upper (λ a. u ≡ Some a)
     → ShowsSides l u answer → ShowsSides lower upper answer
-shows_still lower upper l u (query.Bounds x xes y yes) h k shown = (still (λ a. x ≡ a) lower l h shown.0, still (λ a. y ≡ a) upper u k shown.1)
+shows_still lower upper l u (query.Bounds below lows above highs) h k shown = (still (λ a. below ≡ a) lower l h shown.0, still (λ a. above ≡ a) upper u k shown.1)
 shows_still lower upper l u (query.Impossible d) h k shown = tt
 shows_still lower upper l u (query.Open cause) h k shown = (still (λ a. ⊥) lower l h shown.0, still (λ a. ⊥) upper u k shown.1)
 

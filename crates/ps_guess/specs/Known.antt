@@ -82,6 +82,11 @@ abbrev pub KeepsSides : Option SideAnswer → Option SideAnswer → Known → Ty
 KeepsSides lower upper (Answered part) = ShowsSides lower upper part.answer
 KeepsSides lower upper (Sides l u) = KeepsSide lower l × KeepsSide upper u
 
+-- of an answer to a query of which this was known before: it is the answer that was known, or shows each side that was found
+abbrev pub ShowsKnown : Known → QueryPart → Type 0
+ShowsKnown (Answered known) part = part ≡ known
+ShowsKnown (Sides lower upper) part = ShowsSides lower upper part.answer
+
 -- nothing that was known before is lost: an answer stays one, and of sides none is lost
 abbrev pub KeepsKnown : Known → Known → Type 0
 KeepsKnown (Answered part) known = HasAnswer known
