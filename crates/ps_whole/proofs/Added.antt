@@ -3,8 +3,6 @@ use Rattle.std.proofs.Common.{◌≡◌, ℕ, ◌*◌, ◌/◌, ◌<◌, ◌^◌
 use Rattle.std.proofs.lemmas.Int.{unsigned_abs-mul}
 use Rattle.std.proofs.Math.Nat.{mul-pos, div-mul_cancel}
 use Rattle.std.specs.Int.{IsGcd}
-use Rattle.ps_meaning.specs.Gcd.{gcd}
-use Rattle.ps_meaning.specs.Coprime.{gcd_is}
 use Rattle.ps_meaning.specs.Parts.{part_pos}
 use Rattle.ps_meaning.specs.Rational.{at_least_one, fraction, add, mul, zero_q}
 use Rattle.ps_meaning.specs.Wide.{SumIsWide}
@@ -42,10 +40,9 @@ pub common_is : (z : ℤ) (e t b : ℕ) → b ≡ unsigned_abs z → z ≡ pos e
 common_is z e t b eb ez = eb ∙ ap unsigned_abs ez ∙ unsigned_abs-mul (pos e) (pos t)
 
 -- a number over another denominator
-pub other_sum : (z y left right : ℤ) (e d g b : ℕ) (new : WholeSum) → 0 < e → 0 < d → g ≡ gcd e d → left ≡ z *ℤ pos (d / g) → right ≡ y *ℤ pos (e / g)
+pub other_sum : (z y left right : ℤ) (e d g b : ℕ) (new : WholeSum) → 0 < e → 0 < d → IsGcd e d g → left ≡ z *ℤ pos (d / g) → right ≡ y *ℤ pos (e / g)
     → b ≡ e * (d / g) → IsSumOf (fraction left b) (fraction right b) new → IsSumOf (fraction z e) (fraction y d) new
-other_sum z y left right e d g b new he hd is el er eb both =
-    let i = subst (λ n. IsGcd e d n) (sym is) (gcd_is e d) in
+other_sum z y left right e d g b new he hd i el er eb both =
     let ht : 0 < d / g = part_pos d g hd i.1 in
     let hb : 0 < b = subst (λ n. 0 < n) (sym eb) (mul-pos he ht) in
     let es : (e / g) * g ≡ e = div-mul_cancel g i.0 in
@@ -60,9 +57,8 @@ other_sum z y left right e d g b new he hd is el er eb both =
     }
 
 -- the common denominator is above 0
-pub common_positive : (z : ℤ) (e d g b : ℕ) → 0 < e → 0 < d → g ≡ gcd e d → b ≡ unsigned_abs z → z ≡ pos e *ℤ pos (d / g) → 0 < b
-common_positive z e d g b he hd is eb ez =
-    let i = subst (λ n. IsGcd e d n) (sym is) (gcd_is e d) in
+pub common_positive : (z : ℤ) (e d g b : ℕ) → 0 < e → 0 < d → IsGcd e d g → b ≡ unsigned_abs z → z ≡ pos e *ℤ pos (d / g) → 0 < b
+common_positive z e d g b he hd i eb ez =
     subst (λ n. 0 < n) (sym (common_is z e (d / g) b eb ez)) (mul-pos he (part_pos d g hd i.1))
 
 pub some_map : {X : Type 0} (o : Option X) (P Q : X → Type 0) → ((x : X) → P x → Q x) → IfSome o P → IfSome o Q

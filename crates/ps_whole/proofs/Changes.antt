@@ -4,7 +4,6 @@ use Rattle.std.proofs.lemmas.Int.{ints}
 use Rattle.std.proofs.Math.Nat.{mul-pos, div-mul_cancel}
 use Rattle.std.proofs.Common.{◌/◌, int_div}
 use Rattle.std.specs.Int.{IsGcd}
-use Rattle.std.proofs.Math.Nat.{one-dvd}
 use Rattle.ps_meaning.proofs.ExactQuotient.{quot_exact}
 use Rattle.ps_meaning.specs.Rational.{Rational, one_positive, at_least_one, fraction, mul, sub, div, zero_q}
 use Rattle.ps_meaning.proofs.Ring.{var, plus, by, minus, none}
@@ -12,7 +11,7 @@ use Rattle.ps_meaning.proofs.IntRing.{ring_z, *ℤ-one, cross_reduced}
 use Rattle.ps_meaning.proofs.Cross.{quotient-same}
 use Rattle.ps_meaning.proofs.Field.{ring_q}
 use Rattle.ps_whole.specs.Whole.{WholeCells, number_at, under_at, whole_at}
-use Rattle.ps_whole.specs.Pivots.{over_row, raw_number, IsContent, IsRowChange}
+use Rattle.ps_whole.specs.Pivots.{over_row, IsRowChange}
 use Rattle.ps_whole.specs.declared.change.RowChange.{RowChange}
 use Rattle.ps_whole.proofs.NewCells.{own_row, new_cell}
 
@@ -116,18 +115,13 @@ kept_cell N c P d e x lost =
     ap (λ z. mul (fraction z e) x) lost ∙ ap (λ y. mul y x) (over_nothing e) ∙ ring_q (x ∷ []) (by none (var 0)) none refl in
     ap (λ z. fraction z d) (nothing_lost N P) ∙ sym (ap (sub (fraction N d)) zero ∙ ring_q ((fraction N d) ∷ []) (plus (var 0) (minus none)) (var 0) refl)
 
--- 1 divides all numbers
-one_common : (row : ℕ → ℤ) (n base : ℕ) → IsContent row n base 1
-one_common row n base = record { positive = omega arith; under = one-dvd base; over = λ j l. one-dvd (unsigned_abs (row j)) }
-
 -- a row that loses nothing stays as it is
 pub kept_change : (w : WholeCells) (p : ℕ) (column : List ℤ) (i : ℕ) (change : RowChange) → i ≢ p → get_or column i (pos 0) ≡ pos 0
-    → change.times ≡ pos 1 → change.less ≡ pos 0 → change.base ≡ under_at w i → 0 < change.base → change.by ≡ 1 → IsRowChange w p column i change
-kept_change w p column i change ne lost times less base positive by_is = record {
+    → change.times ≡ pos 1 → change.less ≡ pos 0 → change.base ≡ under_at w i → 0 < change.base → IsRowChange w p column i change
+kept_change w p column i change ne lost times less base positive = record {
   times = omega (arith, ints, times);
   less = omega (arith, ints, less);
   base = positive;
-  content = subst (IsContent (raw_number w p i change.times change.less) w.width change.base) (sym by_is) (one_common (raw_number w p i change.times change.less) w.width change.base);
   cells = λ j. record {
     own = λ same. absurd (ne same);
     other = λ _. (λ k. fraction ((number_at w i j *ℤ times k) -ℤ (less k *ℤ number_at w p j)) (base k))

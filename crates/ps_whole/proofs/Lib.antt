@@ -8,3 +8,4 @@ pub mod Numbers
 pub mod FirstRows
 pub mod Added
 pub mod RowOf
+pub mod CarriedRows

@@ -7,7 +7,7 @@ use Rattle.ps_meaning.specs.Rational.{Positive, at_least_one, times, quotient, f
 use Rattle.ps_meaning.specs.Sums.{sum_to, int_sum_to}
 use Rattle.ps_meaning.specs.Wide.{SumIsWide}
 use Rattle.ps_meaning.proofs.Ring.{var, plus, by}
-use Rattle.ps_meaning.proofs.IntRing.{ring_z}
+use Rattle.ps_meaning.proofs.IntRing.{ring_z, *ℤ-zero}
 use Rattle.ps_meaning.proofs.Cross.{times-value, quotient-same, add-quotient, mul-quotient}
 use Rattle.ps_whole.specs.Whole.{WholeCells, IsWhole, whole_at, number_at, under_at}
 use Rattle.std.proofs.Common.{Option, Some, None, IfSome}
@@ -34,6 +34,15 @@ sum_next w entries i n v next h e small entry =
       ];
     }
 
+-- a product with 0
+plus_nothing : (z : ℤ) → z +ℤ pos 0 ≡ z
+plus_nothing z = omega (arith, ints)
+
+pub sum_kept : (w : WholeCells) (entries : List ℤ) (i n : ℕ) (v : ℤ) → IsPartSum w entries i n v → unsigned_abs v < 2 ^ 62 → get_or entries n (pos 0) ≡ pos 0 → IsPartSum w entries i (suc n) v
+sum_kept w entries i n v h small free =
+    let none : number_part w entries i n ≡ pos 0 = ap (λ z. number_at w i (suc n) *ℤ z) free ∙ *ℤ-zero (number_at w i (suc n)) in
+    sum_next w entries i n v v h (sym (ap (λ z. v +ℤ z) none ∙ plus_nothing v)) small (omega (arith, ints, free))
+
 pub sum_none : (w : WholeCells) (entries : List ℤ) (i n : ℕ) → n ≡ 0 → IsPartSum w entries i n (pos 0)
 sum_none w entries i n e = record {
   value = ap (λ k. int_sum_to k (number_part w entries i)) (sym e);
@@ -57,7 +66,7 @@ part_is z y d =
     mul-quotient z y d (at_least_one 1)
     ∙ quotient-same (z *ℤ y) (z *ℤ y) (times d (at_least_one 1)) d (ap (λ n. (z *ℤ y) *ℤ pos n) (sym (times_one d)))
 
-over_zero : (d : Positive) → zero_q ≡ quotient (pos 0) d
+pub over_zero : (d : Positive) → zero_q ≡ quotient (pos 0) d
 unfolding zero_q
 over_zero d = quotient-same (pos 0) (pos 0) one_positive d (omega (arith, ints))
 

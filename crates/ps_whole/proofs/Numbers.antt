@@ -1,12 +1,11 @@
 -- Rows that are copied, and the numbers of a column.
-use Rattle.std.proofs.Common.{◌≡◌, ℕ, zero, suc, ◌+◌, ◌-◌, ◌*◌, ◌<◌, ◌^◌, List, [], ◌∷◌, ◌++◌, get_or, length, drop, ℤ, pos, unsigned_abs, arith, refl, sym, ap, ◌∙◌, subst, inl, inr}
+use Rattle.std.proofs.Common.{◌≡◌, ℕ, ◌+◌, ◌-◌, ◌*◌, ◌<◌, ◌^◌, List, [], ◌∷◌, ◌++◌, get_or, length, drop, ℤ, pos, unsigned_abs, arith, refl, sym, ap, ◌∙◌, subst, inl, inr}
 use Rattle.std.proofs.lemmas.Bool.{cases_eq}
 use Rattle.std.proofs.lemmas.List.{get_or_append_left, get_or-append-add, get_or-take, get_or-drop, length-append, length-take, length-drop}
 use Rattle.std.proofs.Math.Nat.{mul-le-mul_right}
 use Rattle.std.proofs.Math.Seq.{get_or-append_seam}
 use Rattle.ps_meaning.specs.Rational.{fraction}
-use Rattle.ps_whole.specs.Whole.{WholeCells, IsWhole, number_at, under_at, whole_at, numbers_of}
-use Rattle.ps_whole.specs.Pivots.{over_row}
+use Rattle.ps_whole.specs.Whole.{WholeCells, IsWhole, under_at, numbers_of}
 use Rattle.ps_whole.specs.Columns.{IsCopied, IsWholeSum, AreNumbersTo, IsNumberIn, IsKeptColumn, IsMadeColumn}
 use Rattle.ps_whole.proofs.FirstRows.{smalls_more}
 use Rattle.ps_whole.proofs.NewColumns.{column_cell}

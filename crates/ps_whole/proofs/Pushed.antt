@@ -1,16 +1,16 @@
 -- Rows that were appended.
-use Rattle.std.proofs.Common.{◌≡◌, ℕ, suc, ◌+◌, ◌-◌, ◌*◌, ◌/◌, ◌<◌, ◌≤◌, ◌^◌, List, [], ◌∷◌, ◌++◌, get_or, length, ℤ, pos, ◌*ℤ◌, ◌-ℤ◌, unsigned_abs, arith, sym, ap, ◌∙◌, subst, inl, inr}
+use Rattle.std.proofs.Common.{◌≡◌, ℕ, suc, ◌+◌, ◌-◌, ◌*◌, ◌/◌, ◌<◌, ◌≤◌, ◌^◌, List, [], ◌∷◌, ◌++◌, get_or, length, ℤ, pos, ◌*ℤ◌, ◌-ℤ◌, unsigned_abs, arith, refl, sym, ap, ◌∙◌, subst, inl, inr}
 use Rattle.std.proofs.lemmas.Bool.{cases_eq, cases_lt}
 use Rattle.std.proofs.lemmas.Int.{ints}
-use Rattle.std.proofs.lemmas.List.{get_or_past, get_or_append_left, length-append}
+use Rattle.std.proofs.lemmas.List.{get_or_past, get_or_append_left, get_or-append-add, length-append}
 use Rattle.std.proofs.Math.Seq.{get_or-append_seam}
-use Rattle.std.proofs.Math.Nat.{mul-le-mul_right, div-mul_cancel}
+use Rattle.std.proofs.Math.Nat.{mul-le-mul_right, div-mul_cancel, one-dvd}
 use Rattle.ps_meaning.specs.Rational.{fraction, at_least_one}
 use Rattle.ps_meaning.specs.Parts.{part_pos}
 use Rattle.ps_meaning.proofs.IntRing.{*ℤ-one}
 use Rattle.ps_whole.specs.Whole.{WholeCells, IsWhole, number_at, whole_at}
 use Rattle.ps_whole.specs.Columns.{IsCopied}
-use Rattle.ps_whole.specs.Pivots.{over_row, raw_number, IsPushedTo, IsPivotedTo, IsPivotCell, IsRowChange}
+use Rattle.ps_whole.specs.Pivots.{over_row, raw_number, IsPushedTo, IsPivotedTo, IsPivotCell, IsRowChange, raw_row, HasRow}
 use Rattle.ps_whole.specs.declared.change.RowChange.{RowChange}
 use Rattle.ps_whole.proofs.NewCells.{reduced}
 use Rattle.ps_whole.proofs.Changes.{at_least_one_value, nothing_lost}
@@ -48,14 +48,17 @@ divided_cell V raw D base g hd hb value under =
     reduced V raw (at_least_one D) (at_least_one base) g value
     (ap (λ n. n * g) (at_least_one_value D hd) ∙ under ∙ sym (at_least_one_value base hb))
 
-module _ (w : WholeCells) (p : ℕ) (column : List ℤ) (i : ℕ) (change : RowChange) (numbers new : List ℤ) (unders items : List ℕ) (D : ℕ)
-    (done : IsPivotedTo w p column i numbers unders) (turn : IsRowChange w p column i change) (pushed : IsPushedTo (raw_number w p i change.times change.less) change.by numbers w.width new)
-    (e : items ≡ unders ++ D ∷ []) (part : D ≡ change.base / change.by) (narrow : D < 2 ^ 62) where
-  whole : D * change.by ≡ change.base
-  whole = ap (λ n. n * change.by) part ∙ div-mul_cancel change.by turn.content.under
+module _ (w : WholeCells) (p : ℕ) (column : List ℤ) (i : ℕ) (change : RowChange) (numbers new : List ℤ) (unders items : List ℕ) (by D : ℕ)
+    (done : IsPivotedTo w p column i numbers unders) (turn : IsRowChange w p column i change) (divided : HasRow (raw_row w p i change) numbers new by)
+    (e : items ≡ unders ++ D ∷ []) (part : D ≡ change.base / by) (narrow : D < 2 ^ 62) where
+  pushed : IsPushedTo (raw_number w p i change.times change.less) by numbers w.width new
+  pushed = divided.pushed
+
+  whole : D * by ≡ change.base
+  whole = ap (λ n. n * by) part ∙ div-mul_cancel by divided.under
 
   hd : 0 < D
-  hd = subst (λ n. 0 < n) (sym part) (part_pos change.base change.by turn.base turn.content.under)
+  hd = subst (λ n. 0 < n) (sym part) (part_pos change.base by turn.base divided.under)
 
   length_items : length items ≡ i + 1
   length_items = ap (λ zs. length zs) e ∙ length-append unders (D ∷ []) ∙ ap (λ n. n + 1) done.rows
@@ -93,7 +96,7 @@ module _ (w : WholeCells) (p : ℕ) (column : List ℤ) (i : ℕ) (change : RowC
   cell_here j hj =
       let V = get_or new (length numbers + j) (pos 0) in
       (λ k. fraction (get_or new (sym done.count k + j) (pos 0)) (last k))
-      ∙ divided_cell V (raw_number w p i change.times change.less j) D change.base change.by hd turn.base (pushed.here j hj) whole
+      ∙ divided_cell V (raw_number w p i change.times change.less j) D change.base by hd turn.base (pushed.here j hj) whole
 
   pub pivoted_next : IsPivotedTo w p column (suc i) new items
   pivoted_next = record {
@@ -111,12 +114,42 @@ module _ (w : WholeCells) (p : ℕ) (column : List ℤ) (i : ℕ) (change : RowC
 
 -- a row that stays as it is was appended
 pub copied_row : (w : WholeCells) → IsWhole w → (p i : ℕ) (change : RowChange) (old new : List ℤ)
-    → change.times ≡ pos 1 → change.less ≡ pos 0 → change.by ≡ 1 → IsCopied w i old new
-    → IsPushedTo (raw_number w p i change.times change.less) change.by old w.width new
-copied_row w ok p i change old new times less by_is copy = record {
-  count = copy.count;
-  before = copy.before;
-  small = λ j l. subst (λ z. unsigned_abs z < 2 ^ 62) (sym (copy.here j l)) (ok.small (i * w.width + j));
-  here = λ j l. (λ k. copy.here j l k *ℤ pos (by_is k)) ∙ *ℤ-one (number_at w i j)
-      ∙ sym ((λ k. (number_at w i j *ℤ times k) -ℤ (less k *ℤ number_at w p j)) ∙ nothing_lost (number_at w i j) (number_at w p j));
+    → change.times ≡ pos 1 → change.less ≡ pos 0 → IsCopied w i old new → HasRow (raw_row w p i change) old new 1
+copied_row w ok p i change old new times less copy = record {
+  positive = omega arith;
+  under = one-dvd change.base;
+  pushed = record {
+    count = copy.count;
+    before = copy.before;
+    small = λ j l. subst (λ z. unsigned_abs z < 2 ^ 62) (sym (copy.here j l)) (ok.small (i * w.width + j));
+    here = λ j l. ap (λ z. z *ℤ pos 1) (copy.here j l) ∙ *ℤ-one (number_at w i j)
+        ∙ sym ((λ k. (number_at w i j *ℤ times k) -ℤ (less k *ℤ number_at w p j)) ∙ nothing_lost (number_at w i j) (number_at w p j));
+  };
 }
+
+-- no number
+pub none_pushed : (row : ℕ → ℤ) (by : ℕ) → IsPushedTo row by [] 0 []
+none_pushed row by = record {
+  count = refl;
+  before = λ k l. refl;
+  small = λ j l. absurd (omega (arith, l));
+  here = λ j l. absurd (omega (arith, l));
+}
+
+-- a row that was made apart was appended
+pub appended_row : (w : WholeCells) (p i : ℕ) (change : RowChange) (old part new : List ℤ) (by : ℕ) → HasRow (raw_row w p i change) [] part by → new ≡ old ++ part
+    → HasRow (raw_row w p i change) old new by
+appended_row w p i change old part new by h e =
+    let none : (j : ℕ) → j ≡ 0 + j = λ j. omega arith in
+    let at : (j : ℕ) → get_or new (length old + j) (pos 0) ≡ get_or part (0 + j) (pos 0) =
+    λ j. ap (λ zs. get_or zs (length old + j) (pos 0)) e ∙ get_or-append-add old part j (pos 0) ∙ ap (λ k. get_or part k (pos 0)) (none j) in
+    record {
+      positive = h.positive;
+      under = h.under;
+      pushed = record {
+        count = omega (arith, ap (λ zs. length zs) e, length-append old part, h.pushed.count);
+        before = λ k l. ap (λ zs. get_or zs k (pos 0)) e ∙ get_or_append_left old part (pos 0) k l;
+        small = λ j l. subst (λ z. unsigned_abs z < 2 ^ 62) (sym (at j)) (h.pushed.small j l);
+        here = λ j l. ap (λ z. z *ℤ pos by) (at j) ∙ h.pushed.here j l;
+      };
+    }

@@ -1,22 +1,21 @@
 -- A row of fractions over one denominator.
-use Rattle.std.proofs.Common.{◌≡◌, ℕ, zero, suc, ◌+◌, ◌*◌, ◌/◌, ◌<◌, ◌^◌, List, [], ◌∷◌, get_or, length, ℤ, pos, ◌*ℤ◌, unsigned_abs, Option, Some, None, IfSome, arith, refl, sym, ap, ◌∙◌, subst, inl, inr}
+use Rattle.std.proofs.Common.{◌≡◌, ℕ, suc, ◌+◌, ◌*◌, ◌/◌, ◌<◌, ◌^◌, List, [], ◌∷◌, get_or, length, ℤ, pos, ◌*ℤ◌, Option, Some, None, IfSome, arith, refl, sym, ap, ◌∙◌, subst, inl, inr}
 use Rattle.std.proofs.lemmas.Bool.{cases_eq}
 use Rattle.std.specs.Int.{IsGcd, ◌∣◌}
-use Rattle.std.proofs.Math.Nat.{div-mul_cancel, dvd-mul_left, dvd-mul_right, dvd_trans, mul-pos, one-dvd}
+use Rattle.std.proofs.Math.Nat.{div-mul_cancel, dvd-mul_left, dvd-mul_right, dvd_trans, mul-pos}
 use Rattle.ps_meaning.specs.Parts.{part_pos}
 use Rattle.ps_meaning.specs.Rational.{Rational, fraction, at_least_one, zero_q}
 use Rattle.ps_meaning.proofs.Cross.{quotient_is}
 use Rattle.ps_meaning.proofs.IntRing.{cross_reduced}
-use Rattle.ps_whole.specs.Whole.{WholeCells}
-use Rattle.ps_whole.specs.Rows.{IsNextUnder, IsUnderOf, IsOver, AreNumbersOver, IsRowOf}
+use Rattle.ps_whole.specs.Rows.{IsCommonUnder, IsNextUnder, IsUnderOf, AreNumbersOver, IsRowOf}
 use Rattle.ps_whole.proofs.Changes.{at_least_one_value}
 
 shared : (u v g : ℕ) → (u * g) * v ≡ u * (v * g)
 shared u v g = omega arith
 
 -- a common multiple by the greatest common divisor
-pub next_is : (under other g n : ℕ) (x : Rational) → 0 < under → other ≡ x.under → 0 < other → IsGcd under other g → n ≡ (under / g) * other → n < 2 ^ 62 → IsNextUnder under x n
-next_is under other g n x hu is ho common product small =
+pub next_is : (under other g n : ℕ) → 0 < under → 0 < other → IsGcd under other g → n ≡ (under / g) * other → n < 2 ^ 62 → IsCommonUnder under other n
+next_is under other g n hu ho common product small =
     let u = under / g in
     let v = other / g in
     let eu : u * g ≡ under = div-mul_cancel g common.0 in
@@ -26,7 +25,7 @@ next_is under other g n x hu is ho common product small =
       positive = subst (λ k. 0 < k) (sym product) (mul-pos (part_pos under g hu common.0) ho);
       small = small;
       before = subst (λ k. under ∣ k) (sym both) (dvd-mul_right under v);
-      here = subst (λ k. k ∣ n) is (subst (λ k. other ∣ k) (sym product) (dvd-mul_left other u));
+      here = subst (λ k. other ∣ k) (sym product) (dvd-mul_left other u);
     }
 
 -- one fraction more
@@ -73,7 +72,7 @@ row_is entries under numbers unders width ew h eu = record {
     zero_times : (m : ℕ) → 0 * width + suc m ≡ suc m
     zero_times m = omega arith
 
-pub next_some : (under other g : ℕ) (x : Rational) (r : Option ℕ) → 0 < under → other ≡ x.under → 0 < other → IsGcd under other g
-    → IfSome r (λ n. n ≡ (under / g) * other) → IfSome r (λ n. n < 2 ^ 62) → IfSome r (IsNextUnder under x)
-next_some under other g x None hu is ho common value small = tt
-next_some under other g x (Some n) hu is ho common value small = next_is under other g n x hu is ho common value small
+pub next_some : (under other g : ℕ) (r : Option ℕ) → 0 < under → 0 < other → IsGcd under other g
+    → IfSome r (λ n. n ≡ (under / g) * other) → IfSome r (λ n. n < 2 ^ 62) → IfSome r (IsCommonUnder under other)
+next_some under other g None hu ho common value small = tt
+next_some under other g (Some n) hu ho common value small = next_is under other g n hu ho common value small

@@ -5,3 +5,4 @@ pub mod Columns
 pub mod Homes
 pub mod Sums
 pub mod Rows
+pub mod Carried

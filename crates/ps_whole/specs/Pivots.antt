@@ -30,18 +30,11 @@ pub record IsPivotCell (X : ℕ → ℕ → Rational) (y : ℕ → Rational) (p 
 abbrev pub raw_number : WholeCells → ℕ → ℕ → ℤ → ℤ → ℕ → ℤ
 raw_number w p i times less j = (number_at w i j *ℤ times) -ℤ (less *ℤ number_at w p j)
 
--- what is common to a denominator and to each of the first n numbers of a row
-pub record IsContent (row : ℕ → ℤ) (n base by : ℕ) : Type 0 where
-  pub positive : 0 < by
-  pub under : by ∣ base
-  pub over : (j : ℕ) → j < n → by ∣ unsigned_abs (row j)
-
 -- what becomes of row i in the pivot
 pub record IsRowChange (w : WholeCells) (p : ℕ) (column : List ℤ) (i : ℕ) (change : RowChange) : Type 0 where
   pub times : unsigned_abs change.times < 2 ^ 62
   pub less : unsigned_abs change.less < 2 ^ 62
   pub base : 0 < change.base
-  pub content : IsContent (raw_number w p i change.times change.less) w.width change.base change.by
   pub cells : (j : ℕ) → IsPivotCell (whole_at w) (over_row w column) p i j
       (fraction (raw_number w p i change.times change.less j) change.base)
 
@@ -49,22 +42,38 @@ pub record IsRowChange (w : WholeCells) (p : ℕ) (column : List ℤ) (i : ℕ) 
 abbrev pub IsNarrowed : ℤ → ℤ → Type 0
 IsNarrowed number kept = (kept ≡ number) × (unsigned_abs number < 2 ^ 62)
 
--- a change of a row by small numbers, and what is common to the row after it
-pub record IsSmallContent (w : WholeCells) (p i : ℕ) (change : RowChange) : Type 0 where
+-- a change of a row by small numbers
+pub record IsSmallChange (change : RowChange) : Type 0 where
   pub times : unsigned_abs change.times < 2 ^ 62
   pub less : unsigned_abs change.less < 2 ^ 62
-  pub content : IsContent (raw_number w p i change.times change.less) w.width change.base change.by
+  pub base : 0 < change.base
 
--- the first n numbers of a row, divided by what is common to them, were appended
+-- the first n numbers of a row, divided by a number, were appended
 pub record IsPushedTo (row : ℕ → ℤ) (by : ℕ) (old : List ℤ) (n : ℕ) (new : List ℤ) : Type 0 where
   pub count : length new ≡ length old + n
   pub before : (k : ℕ) → k < length old → get_or new k (pos 0) ≡ get_or old k (pos 0)
   pub small : (j : ℕ) → j < n → unsigned_abs (get_or new (length old + j) (pos 0)) < 2 ^ 62
   pub here : (j : ℕ) → j < n → get_or new (length old + j) (pos 0) *ℤ pos by ≡ row j
 
--- a whole row after the change was appended
-abbrev pub HasRow : WholeCells → ℕ → ℕ → RowChange → List ℤ → List ℤ → Type 0
-HasRow w p i change old new = IsPushedTo (raw_number w p i change.times change.less) change.by old w.width new
+-- a row that isn't divided yet: how many numbers it has, these, and their denominator
+pub record RawRow : Type 0 where
+  pub width : ℕ
+  pub number : ℕ → ℤ
+  pub base : ℕ
+
+-- row i after the change
+abbrev pub raw_row : WholeCells → ℕ → ℕ → RowChange → RawRow
+raw_row w p i change = record { width = w.width; number = raw_number w p i change.times change.less; base = change.base }
+
+-- all numbers of a row, divided by a number, were appended
+abbrev pub IsPushed : RawRow → ℕ → List ℤ → List ℤ → Type 0
+IsPushed row by old new = IsPushedTo row.number by old row.width new
+
+-- a row was appended, divided by what divides its denominator too
+pub record HasRow (row : RawRow) (old new : List ℤ) (by : ℕ) : Type 0 where
+  pub positive : 0 < by
+  pub under : by ∣ row.base
+  pub pushed : IsPushed row by old new
 
 -- the first n rows after the pivot
 pub record IsPivotedTo (w : WholeCells) (p : ℕ) (column : List ℤ) (n : ℕ) (numbers : List ℤ) (unders : List ℕ) : Type 0 where

@@ -1,16 +1,20 @@
 -- A row of fractions over one denominator.
-use Rattle.std.specs.Prelude.{◌≡◌, ℕ, zero, suc, ◌<◌, ◌^◌, List, get_or, length, ℤ, pos}
+use Rattle.std.specs.Prelude.{◌≡◌, ℕ, zero, suc, ◌<◌, ◌^◌, List, get_or, length, ℤ}
 use Rattle.std.specs.Int.{◌∣◌}
 use Rattle.ps_meaning.specs.Rational.{Rational, fraction, zero_q}
 use Rattle.ps_whole.specs.Whole.{WholeCells, whole_at}
 use Rattle.ps_whole.specs.Columns.{AreNumbersTo}
 
--- a small multiple of a denominator and of that of a fraction
-pub record IsNextUnder (under : ℕ) (x : Rational) (n : ℕ) : Type 0 where
+-- a small multiple of two denominators
+pub record IsCommonUnder (left right n : ℕ) : Type 0 where
   pub positive : 0 < n
   pub small : n < 2 ^ 62
-  pub before : under ∣ n
-  pub here : x.under ∣ n
+  pub before : left ∣ n
+  pub here : right ∣ n
+
+-- a small multiple of a denominator and of that of a fraction
+abbrev pub IsNextUnder : ℕ → Rational → ℕ → Type 0
+IsNextUnder under x n = IsCommonUnder under x.under n
 
 -- a small multiple of the denominators of the first k fractions
 pub record IsUnderOf (entries : List Rational) (k n : ℕ) : Type 0 where

@@ -1,6 +1,6 @@
 -- Rows of whole numbers, each over a denominator of its own.
 use Rattle.std.specs.Prelude.{◌≡◌, ℕ, ◌+◌, ◌*◌, ◌<◌, ◌≤◌, ◌^◌, List, get_or, length, ℤ, pos, unsigned_abs}
-use Rattle.std.specs.Prelude.{Bool, IsTrue, Result, IfOk}
+use Rattle.std.specs.Prelude.{Bool, IsTrue, Option, Result, IfOk, IfSome}
 use Rattle.std.specs.List.{slice_range}
 use Rattle.ps_meaning.specs.Rational.{Rational, fraction}
 use Rattle.ps_whole.specs.declared.limits.TheConstants.{MOST_ROWS, MOST_COLUMNS}
@@ -37,6 +37,10 @@ pub record IsWhole (w : WholeCells) : Type 0 where
   pub positive : (i : ℕ) → 0 < get_or w.unders i 1
   pub small_unders : (i : ℕ) → get_or w.unders i 1 < 2 ^ 62
   pub small : (k : ℕ) → unsigned_abs (get_or w.numbers k (pos 0)) < 2 ^ 62
+
+-- a fact about a number that a call may answer
+abbrev pub IfMade : {E : Type 0} → Result (Option ℕ) E → (ℕ → Type 0) → Type 0
+IfMade result fact = IfOk result (λ made. IfSome made fact)
 
 -- a fact about what was made, where all its numbers were small enough
 abbrev pub IfAll : {E : Type 0} → Result Bool E → Type 0 → Type 0

@@ -22,7 +22,7 @@ fn times_entry(number: i64, entry: i64) -> i128
 }
 
 /// A sum and a product.
-fn plus(sum: i64, product: i128) -> i128
+pub(crate) fn plus(sum: i64, product: i128) -> i128
     requires sum { unsigned_abs sum < 2 ^ 62 }
     requires product { unsigned_abs product < 2 ^ 126 }
     ensures value { result ≡ sum +ℤ product }
@@ -31,7 +31,8 @@ fn plus(sum: i64, product: i128) -> i128
 }
 
 impl Whole {
-    /// The sum of the products before entry `m`, and of that of entry `m`, if it stays small.
+    /// The sum of the products before entry `m`, and of that of entry `m`, if it stays small; where
+    /// the entry is 0, no operation is made.
     fn next_sum(&self, entries: &[i64], i: usize, m: usize, sum: i64) -> Option<i64>
         requires row { i < self.now.rows }
         requires home { m + 1 < self.now.width }
@@ -40,7 +41,11 @@ impl Whole {
         requires small { unsigned_abs sum < 2 ^ 62 }
         ensures next { IfSome result (IsPartSum self.now entries.now i (suc m)) }
     {
-        let product = times_entry(self.number(i, 1 + m), entries[m]);
+        let entry = entries[m];
+        if entry == 0 {
+            return Some(sum);
+        }
+        let product = times_entry(self.number(i, 1 + m), entry);
         narrow(plus(sum, product))
     }
 

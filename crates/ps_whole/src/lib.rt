@@ -1,8 +1,10 @@
 //! Tables of rows of whole numbers, each row over a denominator of its own.
 #![tactic(auto)]
 
+mod carrying;
 mod change;
 mod columns;
+mod divisor;
 mod divisors;
 mod homes;
 mod laws;

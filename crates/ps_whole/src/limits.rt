@@ -11,3 +11,6 @@ pub(crate) const LIMIT: u128 = 1 << 62;
 
 /// Above the size of each number of a sum.
 pub(crate) const SUM_LIMIT: u128 = 1 << 126;
+
+/// How many numbers of a row tell what is common to all of them, mostly.
+pub(crate) const FIRST_NUMBERS: usize = 8;

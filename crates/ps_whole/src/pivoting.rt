@@ -1,14 +1,15 @@
 //! Tables after a pivot.
-ghost use Rattle.std.specs.Prelude.{◌<◌};
-ghost use Rattle.std.specs.Prelude.{IfOk, IfSome, unsigned_abs};
-ghost use Rattle.ps_whole.specs.Whole.{IfAll};
+ghost use Rattle.std.specs.Prelude.{◌<◌, [], IfOk, IfSome};
+ghost use Rattle.ps_whole.specs.Whole.{IfAll, IfMade};
 ghost use Rattle.ps_whole.specs.Pivots.{IsPivotOf, IsPivoted, IsNarrowed, ArePivotsNarrow};
-ghost use Rattle.ps_whole.specs.Pivots.{HasRow, HasNextRow, IsPivotedTo, ArePivoted, IsSmallContent};
+ghost use Rattle.ps_whole.specs.Pivots.{raw_row, IsPushed, HasRow, HasNextRow, IsPivotedTo};
+ghost use Rattle.ps_whole.specs.Pivots.{ArePivoted, IsSmallChange};
 
 use crate::change::RowChange;
-use crate::limits::LIMIT;
+use crate::divisor::Divisor;
+use crate::limits::{FIRST_NUMBERS, LIMIT};
 use crate::rows::Whole;
-use ps_frac::{signed_quotient, size_quotient};
+use ps_frac::size_quotient;
 use ps_io::NoMemory;
 
 /// A number that is small enough to be kept.
@@ -22,50 +23,88 @@ pub(crate) fn narrow(number: i128) -> Option<i64>
 }
 
 impl Whole {
-    /// Appends the numbers of a row after a pivot, and tells whether all of them are small enough.
-    fn push_numbers(
+    /// Makes the numbers of a row after a pivot, each divided by this, and tells whether all of them
+    /// are whole and small enough.
+    fn make_divided(
         &self,
         p: usize,
         i: usize,
         change: &RowChange,
-        made: &mut Vec<i64>,
+        by: u128,
+        row: &mut Vec<i64>,
     ) -> Result<bool, NoMemory>
         requires own { p < self.now.rows }
         requires row { i < self.now.rows }
-        requires change { IsSmallContent self.now p i change.now }
-        ensures all { IfAll result (HasRow self.now p i change.now made.old.items made.new.items) }
+        requires change { IsSmallChange change.now }
+        requires positive { 0 < by }
+        ensures all { IfAll result
+            (IsPushed (raw_row self.now p i change.now) by [] row.new.items) }
     {
+        row.clear();
+        let divisor = Divisor::of(by);
         for column in 0..self.width() {
             let raw = self.raw(p, i, change.times, change.less, column);
-            match narrow(signed_quotient(raw, change.by)) {
-                Some(number) => made.push(number)?,
+            match divisor.quotient(raw) {
+                Some(number) => row.push(number)?,
                 None => return Ok(false),
             }
         }
         Ok(true)
     }
 
-    /// Appends the numbers of a row after a pivot, which may be those before it, and tells whether
-    /// all of them are small enough.
+    /// Makes the numbers of a row after a pivot, and answers what they were divided by; `None` where
+    /// one is too large. What the first few have in common is mostly common to all of them.
+    fn make_row(
+        &self,
+        p: usize,
+        i: usize,
+        change: &RowChange,
+        row: &mut Vec<i64>,
+    ) -> Result<Option<u128>, NoMemory>
+        requires own { p < self.now.rows }
+        requires row { i < self.now.rows }
+        requires change { IsSmallChange change.now }
+        ensures { IfMade result (HasRow (raw_row self.now p i change.now) [] row.new.items) }
+    {
+        let some = self.content(p, i, change, FIRST_NUMBERS);
+        if self.make_divided(p, i, change, some, row)? {
+            return Ok(Some(some));
+        }
+        let all = self.content(p, i, change, self.width);
+        if self.make_divided(p, i, change, all, row)? {
+            return Ok(Some(all));
+        }
+        Ok(None)
+    }
+
+    /// Appends the numbers of a row after a pivot, which may be those before it, and answers what
+    /// they were divided by; `None` where one is too large. It uses `row` for what it makes.
     fn push_changed(
         &self,
         p: usize,
         i: usize,
         change: &RowChange,
+        row: &mut Vec<i64>,
         made: &mut Vec<i64>,
-    ) -> Result<bool, NoMemory>
+    ) -> Result<Option<u128>, NoMemory>
         requires own { p < self.now.rows }
         requires row { i < self.now.rows }
-        requires change { IsSmallContent self.now p i change.now }
-        ensures all { IfAll result (HasRow self.now p i change.now made.old.items made.new.items) }
+        requires change { IsSmallChange change.now }
+        ensures { IfMade result
+            (HasRow (raw_row self.now p i change.now) made.old.items made.new.items) }
     {
         if change.keeps() {
             // Called for its clauses: the numbers are small.
             self.rows();
             self.push_copied(i, made)?;
-            return Ok(true);
+            return Ok(Some(1));
         }
-        self.push_numbers(p, i, change, made)
+        let by = match self.make_row(p, i, change, row)? {
+            Some(by) => by,
+            None => return Ok(None),
+        };
+        made.extend_from_slice(row.as_slice())?;
+        Ok(Some(by))
     }
 
     /// Appends a row after a pivot, and tells whether all of its numbers are small enough.
@@ -74,6 +113,7 @@ impl Whole {
         p: usize,
         column: &[i64],
         i: usize,
+        row: &mut Vec<i64>,
         numbers: &mut Vec<i64>,
         unders: &mut Vec<u64>,
     ) -> Result<bool, NoMemory>
@@ -84,11 +124,12 @@ impl Whole {
             (HasNextRow self.now p column.now i numbers.new.items unders.new.items) }
     {
         let change = self.change(p, column, i);
-        let under = size_quotient(change.base, change.by);
+        let by = match self.push_changed(p, i, &change, row, numbers)? {
+            Some(by) => by,
+            None => return Ok(false),
+        };
+        let under = size_quotient(change.base, by);
         if !(under < LIMIT) {
-            return Ok(false);
-        }
-        if !self.push_changed(p, i, &change, numbers)? {
             return Ok(false);
         }
         unders.push(under as u64)?;
@@ -108,8 +149,9 @@ impl Whole {
         ensures all { IfAll result
             (ArePivoted self.now p column.now numbers.new.items unders.new.items) }
     {
+        let mut row = Vec::with_capacity(self.alloc, self.width)?;
         for i in 0..self.rows() {
-            if !self.push_row(p, column, i, numbers, unders)? {
+            if !self.push_row(p, column, i, &mut row, numbers, unders)? {
                 return Ok(false);
             }
         }

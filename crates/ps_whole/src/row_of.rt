@@ -1,12 +1,12 @@
 //! A row of fractions over one denominator.
-ghost use Rattle.std.specs.Prelude.{◌≡◌, [], ◌∷◌, ◌*◌, ◌<◌, ◌^◌, length};
+ghost use Rattle.std.specs.Prelude.{◌≡◌, [], ◌∷◌, ◌<◌, ◌^◌, length};
 ghost use Rattle.std.specs.Prelude.{IfOk, IfSome, unsigned_abs};
 ghost use Rattle.std.specs.Int.{◌∣◌};
 ghost use Rattle.ps_meaning.specs.Rational.{fraction};
 ghost use Rattle.ps_whole.specs.Rows.{IsNextUnder, IsUnderOf, AreNumbersOver, IsRowOf};
 ghost use Rattle.ps_whole.specs.declared.limits.TheConstants.{MOST_COLUMNS};
 
-use crate::divisors::gcd_of_words;
+use crate::divisors::common_multiple;
 use crate::limits::LIMIT;
 use crate::pivoting::narrow;
 use crate::rows::Whole;
@@ -14,20 +14,6 @@ use crate::turning::{product, signed_size};
 use ps_frac::Fraction;
 use ps_io::NoMemory;
 use std::alloc::Global;
-
-/// A product of two denominators, if it stays small.
-fn small_product(left: u64, right: u64) -> Option<u64>
-    requires left { left < 2 ^ 62 }
-    requires right { right < 2 ^ 62 }
-    ensures value { IfSome result (λ n. n ≡ left * right) }
-    ensures small { IfSome result (λ n. n < 2 ^ 62) }
-{
-    let product = left as u128 * right as u128;
-    if product < LIMIT {
-        return Some(product as u64);
-    }
-    None
-}
 
 /// The denominator of a fraction, if it is small.
 fn small_under(entry: &Fraction) -> Option<u64>
@@ -49,8 +35,7 @@ fn next_under(under: u64, entry: &Fraction) -> Option<u64>
     ensures next { IfSome result (IsNextUnder under entry.now) }
 {
     let other = small_under(entry)?;
-    let g = gcd_of_words(under, other);
-    small_product(under / g, other)
+    common_multiple(under, other)
 }
 
 /// A common multiple of all denominators, if it stays small.
@@ -99,7 +84,7 @@ fn numbers_over(
 }
 
 /// One denominator.
-fn one_under(alloc: Global, under: u64) -> Result<Vec<u64>, NoMemory>
+pub(crate) fn one_under(alloc: Global, under: u64) -> Result<Vec<u64>, NoMemory>
     ensures made { IfOk result (λ v. v.items ≡ under ∷ []) }
 {
     let mut made = Vec::new(alloc);

@@ -5,9 +5,10 @@ ghost use Rattle.ps_meaning.specs.Rational.{fraction, zero_q};
 ghost use Rattle.ps_whole.specs.Whole.{whole_at};
 ghost use Rattle.ps_whole.specs.Sums.{value_of, IsSmallSum, IsSumOf, IsSumWith};
 
+use crate::divisors::gcd_by_rest;
 use crate::limits::SUM_LIMIT;
 use crate::rows::Whole;
-use ps_frac::{Fraction, gcd, size_quotient};
+use ps_frac::{Fraction, size_quotient};
 
 /// A sum over one denominator.
 #[derive(Clone, Copy, Drop)]
@@ -19,7 +20,7 @@ pub struct WholeSum {
 }
 
 /// `cost * number`, of a cost from -1 to 1.
-fn cost_times(cost: i8, number: i64) -> i64
+pub(crate) fn cost_times(cost: i8, number: i64) -> i64
     requires low { negsuc 0 ≤ℤ cost }
     requires high { cost ≤ℤ pos 1 }
     requires small { unsigned_abs number < 2 ^ 62 }
@@ -101,7 +102,7 @@ impl WholeSum {
         requires under { under < 2 ^ 62 }
         ensures sum { IfSome result (IsSumOf (value_of self.now) (fraction number under)) }
     {
-        let g = gcd(self.under, under as u128);
+        let g = gcd_by_rest(self.under, under as u128);
         let times = size_quotient(under as u128, g);
         let left = multiple(self.over, times)?;
         let right = multiple(number as i128, size_quotient(self.under, g))?;

@@ -1,8 +1,9 @@
 //! Pivots of rows of whole numbers.
 ghost use Rattle.std.specs.Prelude.{◌≡◌, ◌≢◌, ◌*◌, ◌<◌, ◌^◌, pos, get_or};
 ghost use Rattle.std.specs.Prelude.{unsigned_abs, int_div, ◌*ℤ◌, ◌-ℤ◌};
+ghost use Rattle.std.specs.Int.{◌∣◌};
 ghost use Rattle.ps_whole.specs.Whole.{under_at};
-ghost use Rattle.ps_whole.specs.Pivots.{raw_number, IsNumbers, IsPivotOf, IsRowChange, IsContent};
+ghost use Rattle.ps_whole.specs.Pivots.{raw_number, IsNumbers, IsPivotOf, IsRowChange, IsSmallChange};
 
 use crate::change::RowChange;
 use crate::divisors::{gcd_by_rest, gcd_of_words};
@@ -56,6 +57,25 @@ fn cofactor(number: i64, g: u64) -> i64
     if number < 0 { -size } else { size }
 }
 
+/// What is common to a number and a divisor.
+fn common_with(number: i128, g: u128) -> u128
+    requires positive { 0 < g }
+    ensures positive { 0 < result }
+    ensures divides { result ∣ g }
+{
+    if number == 0 {
+        return g;
+    }
+    gcd_by_rest(number.unsigned_abs(), g)
+}
+
+/// How many numbers that aren't 0 are left to be looked at after this one.
+fn left_after(number: i128, left: usize) -> usize
+    requires some { 0 < left }
+{
+    if number == 0 { left } else { left - 1 }
+}
+
 impl Whole {
     /// `times` times a number, less `less` times that of row `p`.
     pub(crate) fn raw(&self, p: usize, i: usize, times: i64, less: i64, column: usize) -> i128
@@ -93,21 +113,24 @@ impl Whole {
         self.entering(column, p)
     }
 
-    /// What is common to a denominator and all numbers of a row.
-    fn content(&self, p: usize, i: usize, times: i64, less: i64, base: u128) -> u128
+    /// What is common to the new denominator of a row and to its first new numbers that aren't 0, at
+    /// most so many. Where it isn't common to all of them, the row can't be divided by it.
+    pub(crate) fn content(&self, p: usize, i: usize, change: &RowChange, most: usize) -> u128
         requires row { i < self.now.rows }
         requires own { p < self.now.rows }
-        requires times { unsigned_abs times < 2 ^ 62 }
-        requires less { unsigned_abs less < 2 ^ 62 }
-        requires base { 0 < base }
-        ensures common { IsContent (raw_number self.now p i times less) self.now.width base result }
+        requires change { IsSmallChange change.now }
+        ensures positive { 0 < result }
+        ensures divides { result ∣ change.now.base }
     {
-        let mut g = base;
+        let mut g = change.base;
+        let mut left = most;
         for column in 0..self.width() {
-            if g == 1 {
-                return 1;
+            if g == 1 || left == 0 {
+                return g;
             }
-            g = gcd_by_rest(self.raw(p, i, times, less, column).unsigned_abs(), g);
+            let raw = self.raw(p, i, change.times, change.less, column);
+            g = common_with(raw, g);
+            left = left_after(raw, left);
         }
         g
     }
@@ -118,13 +141,10 @@ impl Whole {
         ensures change { IsRowChange self.now p column.now p result }
     {
         let entry = self.pivot_number(p, column);
-        let times = with_sign(1, entry);
-        let base = entry.unsigned_abs() as u128;
         RowChange {
-            times,
+            times: with_sign(1, entry),
             less: 0,
-            base,
-            by: self.content(p, p, times, 0, base),
+            base: entry.unsigned_abs() as u128,
         }
     }
 
@@ -135,13 +155,11 @@ impl Whole {
         ensures less { result.less ≡ pos 0 }
         ensures base { result.base ≡ under_at self.now i }
         ensures positive { 0 < result.base }
-        ensures by { result.by ≡ 1 }
     {
         RowChange {
             times: 1,
             less: 0,
             base: self.under(i) as u128,
-            by: 1,
         }
     }
 
@@ -159,14 +177,10 @@ impl Whole {
         }
         let g = gcd_of_words(lost.unsigned_abs(), entry.unsigned_abs());
         let size = entry.unsigned_abs() / g;
-        let times = signed_size(size);
-        let less = with_sign(cofactor(lost, g), entry);
-        let base = self.under(i) as u128 * size as u128;
         RowChange {
-            times,
-            less,
-            base,
-            by: self.content(p, i, times, less, base),
+            times: signed_size(size),
+            less: with_sign(cofactor(lost, g), entry),
+            base: self.under(i) as u128 * size as u128,
         }
     }
 

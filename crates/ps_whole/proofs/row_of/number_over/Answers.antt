@@ -1,4 +1,4 @@
-use Rattle.std.proofs.Common.{◌≡◌, ◌<◌, ◌^◌, ◌/◌, pos, ◌*ℤ◌, unsigned_abs, IfSome, ap, arith, sym, ◌∙◌, rules, FitsSigned, w64}
+use Rattle.std.proofs.Common.{◌≡◌, ◌/◌, pos, ◌*ℤ◌, IfSome, ap, arith, ◌∙◌, rules, FitsSigned, w64}
 use Rattle.std.specs.Int.{w128}
 use Rattle.std.proofs.lemmas.Int.{to_z-of_z}
 use Rattle.std.proofs.Math.Nat.{div-le_self}

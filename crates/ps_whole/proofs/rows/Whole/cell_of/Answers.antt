@@ -1,4 +1,4 @@
-use Rattle.std.proofs.Common.{◌≡◌, length, subst, sym, ◌∙◌, rules, FitsSigned, w64}
+use Rattle.std.proofs.Common.{◌≡◌, length, subst, sym, rules, FitsSigned, w64}
 use Rattle.std.proofs.lemmas.Int.{to_z-of_z}
 use Rattle.ps_meaning.specs.Rational.{fraction}
 use Rattle.ps_whole.specs.Whole.{under_at, whole_at}

@@ -1,11 +1,17 @@
 use Rattle.std.proofs.Common.{◌≡◌, ◌<◌, ◌≤◌, ◌+◌, ◌^◌, suc, pos, ◌+ℤ◌, ◌*ℤ◌, get_or, unsigned_abs, IfSome, arith, subst, sym, ap, ◌∙◌, rules, FitsSigned, w64}
 use Rattle.std.specs.Int.{w128}
-use Rattle.std.proofs.lemmas.Int.{to_z-of_z}
+use Rattle.std.proofs.lemmas.Int.{ints, to_z-of_z}
 use Rattle.ps_whole.specs.Whole.{number_at}
 use Rattle.ps_whole.specs.Pivots.{IsNarrowed}
 use Rattle.ps_whole.specs.Columns.{number_part, IsPartSum}
-use Rattle.ps_whole.proofs.NewColumns.{some_more, sum_next}
+use Rattle.ps_whole.proofs.NewColumns.{some_more, sum_next, sum_kept}
 use Rattle.ps_whole.proofs.rows.Whole.next_sum.Goals as goal
+
+pub returns-then-entry-eq0 : goal.returns-then-entry-eq0
+returns-then-entry-eq0 c =
+    let free : get_or c.args.entries.now c.args.m (pos 0) ≡ pos 0 = omega (arith, ints) in
+    let f : FitsSigned w64 c.args.sum = search rules in
+    rw (to_z-of_z w64 c.args.sum f) (record { next = sum_kept c.args.self.now c.args.entries.now c.args.i c.args.m c.args.sum c.requires.sum c.requires.small free })
 
 pub returns : goal.returns
 returns c =

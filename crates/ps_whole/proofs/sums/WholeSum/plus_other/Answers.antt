@@ -11,12 +11,12 @@ total-requires-clause-positive c =
     let e = c.args.self.now.under in
     let d = c.args.under in
     let z = c.in_ok-multiple.field-0 in
-    let g = c.gcd-g.result in
+    let g = c.gcd_by_rest-g.result in
     let fz : FitsSigned w128 z = search rules in
     let size : c.unsigned_abs-common.result ≡ unsigned_abs z = c.unsigned_abs-common.ensures.value ∙ ap unsigned_abs (to_z-of_z w128 z fz) in
     let eu : to_z w128 e ≡ pos e = to_z_pos w128 e (omega (arith, c.requires.small.under)) in
     let made : z ≡ pos e *ℤ pos c.size_quotient-times.result = c.in_ok-multiple.ensures.value ∙ ap (λ k. k *ℤ pos c.size_quotient-times.result) eu in
-    common_positive z e d g c.unsigned_abs-common.result c.requires.small.positive c.requires.positive c.gcd-g.ensures.value size
+    common_positive z e d g c.unsigned_abs-common.result c.requires.small.positive c.requires.positive c.gcd_by_rest-g.ensures.value size
     (made ∙ ap (λ n. pos e *ℤ pos n) c.size_quotient-times.ensures.value)
 
 pub returns : goal.returns
@@ -29,7 +29,7 @@ returns c =
     let right = c.in_ok-right.right in
     let z = c.in_ok-multiple.field-0 in
     let b = c.unsigned_abs-common.result in
-    let g = c.gcd-g.result in
+    let g = c.gcd_by_rest-g.result in
     let fo : FitsSigned w128 s.over = search rules in
     let fy : FitsSigned w64 y = search rules in
     let fn : FitsSigned w128 y = search rules in
@@ -47,6 +47,6 @@ returns c =
     (subst (λ r. IfSome c.total.result (IsSumOf (fraction (to_z w128 (of_z w128 left)) b) (fraction r b))) (to_z-of_z w128 right fr) c.total.ensures.sum) in
     record {
       sum = some_map c.total.result (IsSumOf (fraction left b) (fraction right b)) (IsSumOf (value_of s) (fraction y d))
-          (λ new is. other_sum s.over y left right e d g b new c.requires.small.positive c.requires.positive c.gcd-g.ensures.value
+          (λ new is. other_sum s.over y left right e d g b new c.requires.small.positive c.requires.positive c.gcd_by_rest-g.ensures.value
           (el ∙ ap (λ n. s.over *ℤ pos n) c.size_quotient-times.ensures.value) (er ∙ ap (λ n. y *ℤ pos n) c.size_quotient.ensures.value) common is) sum;
     }
