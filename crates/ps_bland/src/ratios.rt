@@ -1,36 +1,43 @@
 //! The row of least ratio.
 ghost use Rattle.std.specs.Prelude.{◌≡◌, ◌↔◌, suc, ◌<◌, false, IfOk, IfErr, IsTrue};
-ghost use Rattle.ps_table.specs.Tableau.{rows_of, HasColumn};
+ghost use Rattle.ps_table.specs.Tableau.{rows_of, HasColumn, entry_of};
 ghost use Rattle.ps_bland.specs.Rounds.{IsRisingIn, HasRisingIn, NoneRisesBefore, HasEntryIn};
 ghost use Rattle.ps_bland.specs.Rounds.{ratio_in, IsLeastWide, GoesBeforeRow};
 ghost use Rattle.ps_bland.specs.Rounds.{IsLeastBeforeIn, HasLeastRatioIn};
 
-use crate::columns::is_above;
+use crate::columns::{is_above, order};
 use ps_frac::Fraction;
 use ps_table::{Col, Place, Table, WideAt, divided_at};
 use std::cmp::Ordering;
 
-/// The ratio of the value to the entry in a row where the entry is above 0.
-fn ratio_at(table: &Table, col: Col, row: u32) -> Result<Fraction, WideAt>
+/// The column's entry in a row.
+fn entry_at(table: &Table, col: Col, row: u32) -> Result<Fraction, WideAt>
     requires inside { HasColumn table.now col }
+    requires row { row < rows_of table.now }
+    ensures value { IfOk result (λ r. r ≡ entry_of table.now row col) }
+    ensures refused { IfErr result (IsLeastWide table.now col) }
+{
+    table.entry(row, col)
+}
+
+/// The ratio of the value to the entry in a row where the entry is above 0.
+fn ratio_at(table: &Table, col: Col, row: u32, entry: &Fraction) -> Result<Fraction, WideAt>
     requires rising { IsRisingIn table.now col row }
+    requires entry { entry.now ≡ entry_of table.now row col }
     ensures value { IfOk result (λ r. r ≡ ratio_in table.now col row) }
     ensures refused { IfErr result (IsLeastWide table.now col) }
 {
     let place = Place::Ratio { row };
-    let entry = table.entry(row, col)?;
-    divided_at(place, &table.value(row), &entry)
+    divided_at(place, &table.value(row), entry)
 }
 
 /// Whether the column's entry in a row is above 0.
-fn rises(table: &Table, col: Col, row: u32) -> Result<bool, WideAt>
-    requires inside { HasColumn table.now col }
+fn rises(table: &Table, col: Col, row: u32, entry: &Fraction) -> bool
     requires row { row < rows_of table.now }
-    ensures value { IfOk result (λ b. IsTrue b ↔ IsRisingIn table.now col row) }
-    ensures refused { IfErr result (IsLeastWide table.now col) }
+    requires entry { entry.now ≡ entry_of table.now row col }
+    ensures value { IsTrue result ↔ IsRisingIn table.now col row }
 {
-    let entry = table.entry(row, col)?;
-    Ok(is_above(&entry))
+    is_above(entry)
 }
 
 /// The first row where the column's entry is above 0.
@@ -42,7 +49,8 @@ fn first_rising(table: &Table, col: Col) -> Result<u32, WideAt>
     ensures refused { IfErr result (IsLeastWide table.now col) }
 {
     for row in 0..table.rows() {
-        if rises(table, col, row)? {
+        let entry = entry_at(table, col, row)?;
+        if rises(table, col, row, &entry) {
             return Ok(row);
         }
     }
@@ -65,7 +73,7 @@ fn is_better(table: &Table, row: u32, ratio: &Fraction, best: &Best) -> bool
     ensures worse { result ≡ false
         → GoesBeforeRow table.now best.now.row best.now.ratio row ratio.now }
 {
-    match ratio.cmp(&best.ratio) {
+    match order(ratio, &best.ratio) {
         Ordering::Less => true,
         Ordering::Equal => table.number(table.basic(row)) < table.number(table.basic(best.row)),
         Ordering::Greater => false,
@@ -82,10 +90,11 @@ fn with_row(table: &Table, col: Col, row: u32, best: Best) -> Result<Best, WideA
     ensures best_ratio { IfOk result (λ b. b.ratio ≡ ratio_in table.now col b.row) }
     ensures refused { IfErr result (IsLeastWide table.now col) }
 {
-    if !rises(table, col, row)? {
+    let entry = entry_at(table, col, row)?;
+    if !rises(table, col, row, &entry) {
         return Ok(best);
     }
-    let ratio = ratio_at(table, col, row)?;
+    let ratio = ratio_at(table, col, row, &entry)?;
     if is_better(table, row, &ratio, &best) {
         Ok(Best { row, ratio })
     } else {
@@ -103,7 +112,8 @@ pub(crate) fn least_row(table: &Table, col: Col) -> Result<u32, WideAt>
 {
     let rows = table.rows();
     let first = first_rising(table, col)?;
-    let ratio = ratio_at(table, col, first)?;
+    let entry = entry_at(table, col, first)?;
+    let ratio = ratio_at(table, col, first, &entry)?;
     let mut best = Best { row: first, ratio };
     for row in first + 1..rows {
         best = with_row(table, col, row, best)?;

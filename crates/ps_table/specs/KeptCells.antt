@@ -2,6 +2,7 @@
 use Rattle.std.specs.Prelude.{◌≡◌, ◌⊎◌, ℕ, zero, suc, ◌+◌, ◌*◌, ◌/◌, ◌%◌, ◌<◌, ◌≤◌, List, [], ◌∷◌, ◌++◌, get_or, length, ℤ}
 use Rattle.ps_meaning.specs.Rational.{Rational, zero_q}
 use Rattle.ps_whole.specs.Whole.{WholeCells, whole_at}
+use Rattle.ps_whole.specs.Carried.{IsCarriedCell}
 use Rattle.ps_table.specs.declared.kept.Cells.{Cells}
 use Rattle.ps_table.specs.declared.kept.Cells.TheVariants as kept
 use Rattle.ps_table.specs.declared.limits.TheConstants.{MOST_ROWS}
@@ -103,3 +104,13 @@ IsColumnRefusal g entries k refused.NoMemory = Unit {0}
 pub record IsKeptTableau (t : Tableau) (g : GridCells) : Type 0 where
   pub tableau : IsTableau t
   pub grid : g ≡ grid_of t
+
+-- a row of whole numbers of what the rows carry of each column
+pub record IsCarriedOf (g : GridCells) (costs : List ℤ) (w : WholeCells) : Type 0 where
+  pub rows_is : w.rows ≡ 1
+  pub width_is : w.width ≡ width g
+  pub cells : (j : ℕ) → j < width g → IsCarriedCell (cell_in g) g.rows costs j (whole_at w 0 j)
+
+-- the entries of such a row behind the right side
+abbrev pub row_entries : ℕ → WholeCells → List Rational
+row_entries n w = list_to n (λ m. whole_at w 0 (suc m))

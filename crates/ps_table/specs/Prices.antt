@@ -37,6 +37,11 @@ pub record IsNarrowPrice (t : Tableau) (costs : Costs) (k m : ℕ) : Type 0 wher
 abbrev pub AreMultipliersNarrow : Tableau → Costs → Type 0
 AreMultipliersNarrow t costs = (m : ℕ) → m < rows_of t → IsNarrow (HomePlaces t costs m)
 
+-- the multipliers of all rows, and no operation of any is refused
+pub record AreNarrowMultipliers (t : Tableau) (costs : Costs) (multipliers : List Rational) : Type 0 where
+  pub are : AreMultipliers t costs multipliers
+  pub narrow : AreMultipliersNarrow t costs
+
 -- an operation of a multiplier is refused
 pub record IsMultiplierWide (t : Tableau) (costs : Costs) (w : WideAt) : Type 0 where
   pub row : ℕ

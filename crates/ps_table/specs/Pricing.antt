@@ -1,9 +1,10 @@
 -- Costs of columns, and what the rows of a table carry of them.
-use Rattle.std.specs.Prelude.{◌≡◌, ℕ, suc, ◌-◌, ◌<◌, ◌≤◌, ◌≤ℤ◌, ◌++◌, get_or, length, ℤ, pos, negsuc}
+use Rattle.std.specs.Prelude.{◌≡◌, ℕ, suc, ◌-◌, ◌<◌, ◌≤◌, ◌≤ℤ◌, ◌++◌, List, get_or, length, ℤ, pos, negsuc}
 use Rattle.ps_table.specs.declared.col.Col.{Col}
 use Rattle.ps_table.specs.declared.costs.Costs.{Costs}
 use Rattle.ps_meaning.specs.Rational.{Rational, fraction, mul}
 use Rattle.ps_simplex.specs.Table.{carried_by}
+use Rattle.ps_whole.specs.Carried.{AreSmallCosts}
 use Rattle.ps_table.specs.Tableau.{Tableau, IsInside, entry_at, basic_at, number_of, rows_of}
 
 -- the costs are from -1 to 1
@@ -50,3 +51,13 @@ carried_of t costs c = carried_to t costs (number_of t c) (rows_of t)
 -- the multiplier of a row: what the rows carry of its home
 abbrev pub multiplier_of : Tableau → Costs → ℕ → Rational
 multiplier_of t costs m = carried_to t costs (suc m) (rows_of t)
+
+-- the costs of the basic columns of the first n rows
+pub record AreBasicCostsTo (t : Tableau) (costs : Costs) (n : ℕ) (made : List ℤ) : Type 0 where
+  pub count : length made ≡ n
+  pub each : (i : ℕ) → i < n → get_or made i (pos 0) ≡ cost_number costs (basic_at t i)
+  pub small : AreSmallCosts made
+
+-- the costs of the basic columns of all rows
+abbrev pub AreBasicCosts : Tableau → Costs → List ℤ → Type 0
+AreBasicCosts t costs made = AreBasicCostsTo t costs (rows_of t) made

@@ -4,6 +4,7 @@ ghost use Rattle.std.specs.Prelude.{◌≡◌, ◌≢◌, suc, ◌+◌, ◌*◌,
 ghost use Rattle.std.specs.Prelude.{IsTrue, pos, negsuc, ◌≤ℤ◌};
 ghost use Rattle.ps_meaning.specs.Rational.{zero_q};
 ghost use Rattle.ps_whole.specs.Sums.{IsSmallSum, IsSumWith};
+ghost use Rattle.ps_whole.specs.Carried.{AreSmallCosts};
 ghost use Rattle.ps_whole.specs.Whole.{whole_at};
 ghost use Rattle.ps_whole.specs.Pivots.{IsPivotOf as IsWholePivotOf, IsPivoted, ArePivotsNarrow};
 ghost use Rattle.ps_table.specs.declared.limits.TheConstants.{MOST_ROWS};
@@ -13,7 +14,7 @@ ghost use Rattle.ps_table.specs.Grids.{GridPivotPlaces, combined_in, enters};
 ghost use Rattle.ps_table.specs.Changes.{AreInside, ArePivotChanges};
 ghost use Rattle.ps_table.specs.KeptCells.{whole_list, IsPivotOn, IsHomePivot, IsWorldPivot};
 ghost use Rattle.ps_table.specs.KeptCells.{IsWholeHomePivot, IsWholeWorldPivot};
-ghost use Rattle.ps_table.specs.KeptCells.{IsHomeRefusal, IsWorldRefusal, IsCellsOf};
+ghost use Rattle.ps_table.specs.KeptCells.{IsHomeRefusal, IsWorldRefusal, IsCellsOf, IsCarriedOf};
 
 use crate::cells::cell;
 use crate::change::{Change, write_all};
@@ -187,6 +188,19 @@ impl Kept {
         match &self.cells {
             Cells::Whole(whole) => whole.sum_with(sum, cost, row, column),
             Cells::Fractions(_) => None,
+        }
+    }
+
+    /// A row of what the rows carry of each column, by a cost for each row, where the entries are
+    /// rows of whole numbers and the sums stay small.
+    pub(crate) fn carried_row(&self, costs: &[i8]) -> Result<Option<Whole>, NoMemory>
+        requires count { length costs.now ≡ self.now.rows }
+        requires costs { AreSmallCosts costs.now }
+        ensures carried { IfOk result (λ made. IfSome made (IsCarriedOf self.now costs.now)) }
+    {
+        match &self.cells {
+            Cells::Whole(whole) => whole.carried_row(costs),
+            Cells::Fractions(_) => Ok(None),
         }
     }
 

@@ -3,6 +3,7 @@
 #![tactic(auto)]
 
 mod at_place;
+mod carrying;
 mod cells;
 mod change;
 mod col;

@@ -1,8 +1,9 @@
 //! The multipliers of all rows.
-ghost use Rattle.std.specs.Prelude.{◌≡◌, ◌<◌, ◌≤◌, length, get_or, IfOk, IfSome};
+ghost use Rattle.std.specs.Prelude.{◌≡◌, suc, ◌<◌, ◌≤◌, length, get_or, IfOk, IfSome};
 ghost use Rattle.ps_meaning.specs.Rational.{zero_q};
 ghost use Rattle.ps_table.specs.declared.limits.TheConstants.{MOST_ROWS};
 ghost use Rattle.ps_table.specs.Prices.{IsWholePrice};
+ghost use Rattle.ps_table.specs.KeptCells.{row_entries};
 
 use ps_frac::Fraction;
 use ps_io::NoMemory;
@@ -15,6 +16,19 @@ use std::marker::Model;
 pub struct Multipliers {
     each: Vec<Fraction>,
     row: Option<Whole>,
+}
+
+/// The entries of a row behind the right side.
+fn entries_of(alloc: Global, row: &Whole, count: usize) -> Result<Vec<Fraction>, NoMemory>
+    requires rows { row.now.rows ≡ 1 }
+    requires width { row.now.width ≡ suc count }
+    ensures value { IfOk result (λ v. v.items ≡ row_entries count row.now) }
+{
+    let mut made = Vec::with_capacity(alloc, count)?;
+    for m in 0..count {
+        made.push(row.entry(0, 1 + m))?;
+    }
+    Ok(made)
 }
 
 impl Model for Multipliers {
@@ -39,8 +53,22 @@ impl Multipliers {
         Ok(Multipliers { each, row })
     }
 
+    /// The multipliers of so many rows that stand in a row of whole numbers behind a right side.
+    #[tactic(auto, using(crate::proofs::CarriedAtOnce::row_with_entries))]
+    pub(crate) fn of_row(alloc: Global, row: Whole, count: usize) -> Result<Multipliers, NoMemory>
+        requires rows { row.rows ≡ 1 }
+        requires width { row.width ≡ suc count }
+        ensures value { IfOk result (λ m. m ≡ row_entries count row) }
+    {
+        let each = entries_of(alloc, &row, count)?;
+        Ok(Multipliers {
+            each,
+            row: Some(row),
+        })
+    }
+
     /// The multiplier of a row.
-    pub(crate) fn at(&self, row: usize) -> Fraction
+    pub fn at(&self, row: usize) -> Fraction
         requires { row < length self.now }
         ensures value { result ≡ get_or self.now row zero_q }
     {

@@ -27,7 +27,7 @@ use ps_whole::WholeSum;
 
 impl Table {
     /// The cost of the column that is basic in a row.
-    fn basic_cost(&self, costs: &Costs, row: u32) -> i8
+    pub(crate) fn basic_cost(&self, costs: &Costs, row: u32) -> i8
         requires costs { HasCosts costs.now self.now }
         requires row { row < rows_of self.now }
         ensures value { result ≡ cost_number costs.now (basic_at self.now row) }
