@@ -1,4 +1,4 @@
-" Vim syntax file: problem texts of psat, version 1 (docs/problem-text.md).
+" Vim syntax file: problem texts of psat, versions 1 and 2 (docs/problem-text.md).
 " Install: copy this file to ~/.vim/syntax/psat.vim, and ftdetect/psat.vim to ~/.vim/ftdetect/psat.vim.
 if exists("b:current_syntax")
   finish
@@ -10,14 +10,16 @@ syn iskeyword a-z,A-Z,48-57,_
 syn match psatError "[^ \t\r]"
 syn match psatName "\<[A-Za-z]\k*\>"
 syn match psatError "\<[A-Za-z]\k\{32,}\>"
-syn match psatNumber "\<\d\+\>"
-syn match psatNumber "\<\d\+/\d\+\>"
-syn match psatNumber "\<\d\+\.\d\{1,6}\>"
+" (a coefficient may stand right before its `P`)
+syn match psatNumber "\<\d\+\%(P\=\>\)\@="
+syn match psatNumber "\<\d\+/\d\+\%(P\=\>\)\@="
+syn match psatNumber "\<\d\+\.\d\{1,6}\%(P\=\>\)\@="
 syn match psatError "\<\d\+\.\d\{7,}\>"
-syn match psatError "\<\d\+[A-Za-z_]\k*\>"
+syn match psatError "\<\d\+\%(P\>\)\@![A-Za-z_]\k*\>"
+syn match psatProbability "\d\@1<=P\>"
 syn match psatDelimiter "[()\[\],;]"
-syn match psatOperator "<->\|->\|>=\|<=\|[!&|=]"
-syn match psatError "&&\|||\|=>\|=="
+syn match psatOperator "<->\|->\|>=\|<=\|[-+!&|=]"
+syn match psatError "&&\|||\|=>\|==\|++\|--\|<->\@!"
 syn match psatComment "#.*$" contains=psatTodo,@Spell
 syn keyword psatTodo TODO FIXME XXX contained
 

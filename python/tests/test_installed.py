@@ -39,6 +39,14 @@ class Installed(unittest.TestCase):
             (dry.status, dry.lower, dry.upper), ("one value", Fraction(3, 100), Fraction(3, 100))
         )
 
+    def test_sum(self) -> None:
+        # of three that exclude each other the least probable one has a third at most
+        problem = psat.Problem().never("a & b | a & c | b & c").query("c")
+        problem.at_least({"a": 1, "b": -1}, 0).at_least({"b": 1, "c": -1}, 0)
+        least = psat.ask(problem).queries[0]
+        self.assertEqual((least.lower, least.upper), (0, Fraction(1, 3)))
+        self.assertTrue(psat.check(problem, psat.report(problem)))
+
     def test_clash(self) -> None:
         problem = psat.Problem().at_least("a", "0.8").at_most("a", "0.7").always("b -> a")
         answer = psat.ask(problem)

@@ -36,6 +36,49 @@ class Problems(unittest.TestCase):
             ],
         )
 
+    def test_sum_makes_a_text_of_version_2(self) -> None:
+        problem = (
+            Problem(names=["a", "b", "c"])
+            .exactly("c", 0.5)
+            .at_least({"a": 1, "b": -1}, 0, note="the ranking")
+            .at_most({"a & c": -2, " b  &c ": "-1/3"}, Fraction(-1, 2))
+            .between({"a": 1.5, "b": Decimal("1"), "c": "0.50"}, "-0.9", 1_000_000)
+            .exactly({"true": 1}, 1)
+            .query("b")
+        )
+        self.assertEqual(
+            str(problem).splitlines(),
+            [
+                "psat 2;",
+                "P(c) = 0.5;",
+                "1 P(a) - 1 P(b) >= 0;  # the ranking",
+                "- 2 P(a & c) - 1/3 P(b &c) <= -1/2;",
+                "1.5 P(a) + 1 P(b) + 0.50 P(c) in [-0.9, 1000000];",
+                "1 P(true) = 1;",
+                "query P(b);",
+                "end;",
+            ],
+        )
+
+    def test_refused_sum_leaves_the_problem_as_it_was(self) -> None:
+        problem = Problem(names=["a", "b"])
+        hostile: tuple[Any, ...] = (
+            *({}, {"a": None}, {"a": 1, "c": 1}, {"a": "x"}, {"a": "--1"}, {"a": float("nan")}),
+            *({"a": 1_000_001}, {"a": "-1000001"}, {"a": Decimal("-Infinity")}, {"a given b": 1}),
+            {"!" * n + "a": 1 for n in range(17)},
+        )
+        for terms in hostile:
+            with self.subTest(terms), self.assertRaises(ProblemError):
+                problem.at_least(terms, 0)
+        for value in (None, "1 000", 2_000_000, Decimal("sNaN"), "-1/1000001"):
+            with self.subTest(value), self.assertRaises(ProblemError):
+                problem.between({"a": 1}, 0, value)  # type: ignore[arg-type]
+        with self.assertRaisesRegex(ProblemError, "a sum has no condition"):
+            problem.at_most({"a": 1}, 0, given="b")
+        with self.assertRaisesRegex(ProblemError, "a query asks for one probability"):
+            problem.query({"a": 1})  # type: ignore[arg-type]
+        self.assertEqual(str(problem), "psat 1;\nend;\n")
+
     def test_note_stays_a_comment_on_its_line(self) -> None:
         hostile = 'one\n; P(a) = 1; end;\r\n\x0b\x85\u2028two "#" \x1b[2J \u202e \ud800'
         text = str(Problem().query("a", note=hostile))
@@ -90,7 +133,7 @@ class Formulas(unittest.TestCase):
 class Values(unittest.TestCase):
     def test_values_are_written_as_they_are_meant(self) -> None:
         cases: list[tuple[Any, str]] = [
-            *((0, "0"), (1, "1"), (0.3, "0.3"), (1.0, "1"), (0.000001, "0.000001")),
+            *((0, "0"), (1, "1"), (0.3, "0.3"), (1.0, "1"), (0.000001, "0.000001"), (-0.0, "0")),
             *(
                 (Fraction(2, 6), "1/3"),
                 (Decimal("0.880"), "0.88"),

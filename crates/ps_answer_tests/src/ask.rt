@@ -1,4 +1,5 @@
 //! Whole inputs, with what is shown of their answers.
+ghost use Rattle.std.specs.Prelude.{◌==◌};
 ghost use Rattle.ps_ask.specs.Shown.{AreSettings};
 
 use late_rows::{LATE, RESTS};
@@ -40,6 +41,8 @@ struct Asked {
 }
 
 impl Watch for Asked {
+    ghost has_refused = { λ a. a.left == 0 };
+
     fn is_over(&mut self) -> bool {
         if self.left == 0 {
             return true;

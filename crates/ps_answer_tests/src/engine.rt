@@ -17,6 +17,20 @@ const DIVIDED: &[u8] = b"psat 1; P(a) = 1/2; P(b) = 3/4; query P(a given b); end
 /// A certainty, and a sentence that it bounds.
 const CERTAIN: &[u8] = b"psat 1; P(a -> b) = 1; P(a) >= 1/3; query P(b); end;";
 
+/// One is more probable than the other by a half.
+const COMPARED: &[u8] = b"psat 2; P(a) - P(b) >= 1/2; query P(b); end;";
+
+/// A multiple less a part of another.
+const WEIGHTED: &[u8] = b"psat 2; 2 P(a) - 1/3 P(b) >= 1/2; query P(a); end;";
+
+/// Two of three on average, and never all: some of them always.
+const COUNTED: &[u8] =
+    b"psat 2; P(a) + P(b) + P(c) = 2; P(a & b & c) = 0; query P(a | b | c); end;";
+
+/// Three that exclude each other in their order: the last one has a third at most.
+const RANKED: &[u8] = b"psat 2; P(a & b | a & c | b & c) = 0; P(a) - P(b) >= 0; P(b) - P(c) >= 0; \
+                        query P(c); end;";
+
 /// How often a guess pauses at most.
 const MOST_PAUSES: u32 = 100;
 
@@ -119,5 +133,19 @@ fn sides_are_guessed(rt: HostRuntime) -> Result<(), Fail> {
     assert_eq!(rt; divided, Some(true));
     let certain = sides(alloc, CERTAIN, [1, 3], [1, 1]);
     assert_eq!(rt; certain, Some(true));
+    Ok(())
+}
+
+#[test]
+fn sides_over_sums_are_guessed(rt: HostRuntime) -> Result<(), Fail> {
+    let alloc = rt.alloc();
+    let compared = sides(alloc, COMPARED, [0, 1], [1, 2]);
+    assert_eq!(rt; compared, Some(true));
+    let weighted = sides(alloc, WEIGHTED, [1, 4], [1, 1]);
+    assert_eq!(rt; weighted, Some(true));
+    let counted = sides(alloc, COUNTED, [1, 1], [1, 1]);
+    assert_eq!(rt; counted, Some(true));
+    let ranked = sides(alloc, RANKED, [0, 1], [1, 3]);
+    assert_eq!(rt; ranked, Some(true));
     Ok(())
 }

@@ -1,6 +1,6 @@
 //! Answers to one query, of which some sides are guessed, and runs that are begun again while time is
 //! left.
-ghost use Rattle.std.specs.Prelude.{◌<◌};
+ghost use Rattle.std.specs.Prelude.{◌<◌, false};
 
 use crate::problems::{LIMITS, problem_of};
 use ps_answer::{Answer, Dual, Model, QueryAnswer, QueryPart, SideAnswer, Verdict, Weighted};
@@ -182,6 +182,8 @@ fn sides_are_guessed_or_run(rt: HostRuntime) {
 struct Endless;
 
 impl Watch for Endless {
+    ghost has_refused = { λ _. false };
+
     fn is_over(&mut self) -> bool {
         false
     }

@@ -54,16 +54,3 @@ is_late_verdict (verdict.Open c) = is_late_cause c
 -- time is limited, and the verdict or some part of the answer wasn't finished in time
 abbrev pub is_late : Bool → Answer → Bool
 is_late timed a = timed && (is_late_verdict a.verdict || is_late_in a.parts)
-
--- ---- sides
--- the side is the lower one that is shown of a query
-abbrev pub IsLowerOf : QueryAnswer → SideAnswer → Type 0
-IsLowerOf (query.Bounds lower lower_trace upper upper_trace) side = lower ≡ side
-IsLowerOf (query.Impossible d) side = ⊥
-IsLowerOf (query.Open c) side = ⊥
-
--- the side is the upper one that is shown of a query
-abbrev pub IsUpperOf : QueryAnswer → SideAnswer → Type 0
-IsUpperOf (query.Bounds lower lower_trace upper upper_trace) side = upper ≡ side
-IsUpperOf (query.Impossible d) side = ⊥
-IsUpperOf (query.Open c) side = ⊥

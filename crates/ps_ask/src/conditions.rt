@@ -1,7 +1,7 @@
 //! Conditions of sentences that no distribution gives weight.
-ghost use Rattle.std.specs.Prelude.{◌≡◌, true, All, IfOk};
-ghost use Rattle.ps_problem.specs.Problems.{HasNodes};
-ghost use Rattle.ps_ask.specs.Conditions.{IsIdle, IsIdlePlace};
+ghost use Rattle.std.specs.Prelude.{◌≡◌, true, IfOk, OnOk};
+ghost use Rattle.ps_problem.specs.Problems.{IsSentence};
+ghost use Rattle.ps_ask.specs.Conditions.{AreIdleWarnings, IsIdle, condition_of};
 ghost use Rattle.ps_ask.specs.Shown.{AreSettings};
 
 use crate::company::Company;
@@ -14,8 +14,17 @@ use ps_engine::Engine;
 use ps_guess::{InTime, Trials, nothing_in_time};
 use ps_hints::{Warning, idle_warning, sentence_lines};
 use ps_io::{List, NoMemory};
-use ps_problem::{Bound, Problem, Query, Sentence};
+use ps_problem::{Problem, Query, Sentence};
 use std::alloc::Global;
+
+/// Warnings about sentences whose condition no distribution gives weight.
+#[derive(Drop)]
+pub(crate) struct IdleWarnings {
+    /// The places of the sentences among those of the problem, from 0.
+    pub(crate) sentences: List<usize>,
+    /// A warning about each, in the same order.
+    pub(crate) warnings: Vec<Warning>,
+}
 
 // Marks the nodes of formulas that are true in a world of the distribution: it gives them weight.
 fn mark_by_model(
@@ -72,34 +81,45 @@ fn weighed_in(
     Ok(marks)
 }
 
-// Whether a bound has a condition that none of the distributions gives weight.
-fn is_unweighed(bound: &Bound, weighed: &[bool]) -> bool {
-    match bound.given {
+// The condition of a sentence, if it has one: a linear one has none.
+fn condition(sentence: &Sentence) -> Option<u32> {
+    match sentence {
+        Sentence::Plain { first, .. } => first.given,
+        Sentence::Linear(_) => None,
+    }
+}
+
+// Whether a sentence has a condition that none of the distributions gives weight.
+fn is_unweighed(sentence: &Sentence, weighed: &[bool]) -> bool {
+    match condition(sentence) {
         Some(given) => weighed.get(given as usize) == Some(&false),
         None => false,
     }
 }
 
-// Whether it is shown in time that no distribution that meets the sentences gives the bound's
-// condition weight.
+// Whether it is shown in time that no distribution that meets the sentences gives the condition of
+// this one weight.
 fn is_idle<W: Company>(
     alloc: Global,
     settings: Settings,
     trials: &Trials<'_>,
-    bound: &Bound,
+    sentence: &Sentence,
     timed: &mut InTime<'_, Engine, W>,
 ) -> Result<bool, NoMemory>
     requires settings { AreSettings settings }
-    requires bound { HasNodes trials.now.nodes bound.now.formula bound.now.given bound.now.both }
-    ensures { IfOk result (λ told. told ≡ true → IsIdle trials.now bound.now.given) }
+    requires sentence { IsSentence trials.now.nodes sentence.now }
+    ensures { IfOk result (λ told. told ≡ true → IsIdle trials.now (condition_of sentence.now)) }
 {
+    let Sentence::Plain { first, .. } = sentence else {
+        return Ok(false);
+    };
     // Called for its clause: the problem is in order.
     let _sound = trials.problem();
     timed.watch.turn_to(Sought::Conditions);
     let query = Query {
-        formula: bound.formula,
-        given: bound.given,
-        both: bound.both,
+        formula: first.formula,
+        given: first.given,
+        both: first.both,
     };
     if let Some(_dual) = nothing_in_time(alloc, trials, query, settings.limits, timed)? {
         return Ok(true);
@@ -107,37 +127,7 @@ fn is_idle<W: Company>(
     Ok(false)
 }
 
-// The places among the bounds of the problem, from 0, of those among these whose condition no
-// distribution gives weight, as far as that is shown in time.
-fn idle_among<W: Company>(
-    alloc: Global,
-    settings: Settings,
-    trials: &Trials<'_>,
-    places: &[usize],
-    timed: &mut InTime<'_, Engine, W>,
-) -> Result<List<usize>, NoMemory>
-    requires settings { AreSettings settings }
-    ensures { IfOk result (All (IsIdlePlace trials.now)) }
-{
-    let bounds = trials.problem().bound_list();
-    let mut idle = List::new(alloc);
-    for place in places {
-        if let Some(bound) = bounds.get(*place) {
-            if is_idle(alloc, settings, trials, bound, timed)? {
-                idle.push(*place)?;
-            }
-        }
-    }
-    Ok(idle)
-}
-
-// How many bounds a sentence states.
-fn bound_count(sentence: &Sentence) -> usize {
-    if sentence.second.is_some() { 2 } else { 1 }
-}
-
-// The places among the bounds of the first bound of each sentence whose condition none of these
-// distributions gives weight.
+// The places of the sentences whose condition none of these distributions gives weight.
 fn unweighed_places(
     alloc: Global,
     problem: &Problem,
@@ -145,41 +135,67 @@ fn unweighed_places(
     answer: &Answer,
 ) -> Result<List<usize>, NoMemory> {
     let weighed = weighed_in(alloc, problem, model, answer)?;
-    let bounds = problem.bound_list();
     let mut places = List::new(alloc);
-    let mut place = 0usize;
-    for sentence in problem.sentences().as_slice() {
-        if let Some(bound) = bounds.get(place) {
-            if is_unweighed(bound, &weighed) {
-                places.push(place)?;
-            }
+    for (place, sentence) in problem.sentences().as_slice().iter().enumerate() {
+        if is_unweighed(sentence, &weighed) {
+            places.push(place)?;
         }
-        place = place.saturating_add(bound_count(sentence));
     }
     Ok(places)
 }
 
-// The warnings about the sentences whose first bounds have these places.
-fn idle_warnings(
+// Adds a warning about the sentence at a place where it is shown in time that no distribution gives
+// its condition weight.
+#[tactic(auto, using(ps_spoken::proofs::ClashLists::sentence_there))]
+fn note_idle<W: Company>(
     alloc: Global,
-    input: Input<'_>,
-    problem: &Problem,
-    idle: &[usize],
-) -> Result<Vec<Warning>, NoMemory> {
-    let mut warnings = Vec::new(alloc);
-    let lines = sentence_lines(alloc, input.bytes)?;
-    let bounds = problem.bound_list();
-    let mut place = 0usize;
-    for (index, sentence) in problem.sentences().as_slice().iter().enumerate() {
-        if let Some(bound) = bounds.get(place) {
-            if idle.contains(&place) {
-                let line = lines.get(index).copied();
-                warnings.push(idle_warning(alloc, line, problem, bound)?)?;
-            }
-        }
-        place = place.saturating_add(bound_count(sentence));
+    settings: Settings,
+    trials: &Trials<'_>,
+    place: usize,
+    line: Option<u32>,
+    noted: &mut IdleWarnings,
+    timed: &mut InTime<'_, Engine, W>,
+) -> Result<(), NoMemory>
+    requires settings { AreSettings settings }
+    requires noted { AreIdleWarnings trials.now noted.old }
+    ensures { OnOk result (AreIdleWarnings trials.now noted.new) }
+{
+    let problem = trials.problem();
+    let Some(sentence) = problem.sentences().get(place) else {
+        return Ok(());
+    };
+    if !is_idle(alloc, settings, trials, sentence, timed)? {
+        return Ok(());
     }
-    Ok(warnings)
+    let warning = idle_warning(alloc, line, problem, sentence)?;
+    noted.warnings.push(warning)?;
+    noted.sentences.push(place)?;
+    Ok(())
+}
+
+// A warning about each sentence at these places whose condition no distribution gives weight, as far
+// as that is shown in time.
+fn idle_among<W: Company>(
+    alloc: Global,
+    settings: Settings,
+    input: Input<'_>,
+    trials: &Trials<'_>,
+    places: &[usize],
+    timed: &mut InTime<'_, Engine, W>,
+) -> Result<IdleWarnings, NoMemory>
+    requires settings { AreSettings settings }
+    ensures { IfOk result (AreIdleWarnings trials.now) }
+{
+    let lines = sentence_lines(alloc, input.bytes)?;
+    let mut noted = IdleWarnings {
+        sentences: List::new(alloc),
+        warnings: Vec::new(alloc),
+    };
+    for place in places {
+        let line = lines.get(*place).copied();
+        note_idle(alloc, settings, trials, *place, line, &mut noted, timed)?;
+    }
+    Ok(noted)
 }
 
 /// The warnings about sentences whose condition no distribution gives weight, where the verdict is
@@ -191,13 +207,16 @@ pub(crate) fn idle_noted<W: Company>(
     trials: &Trials<'_>,
     answer: &Answer,
     timed: &mut InTime<'_, Engine, W>,
-) -> Result<Vec<Warning>, NoMemory>
+) -> Result<IdleWarnings, NoMemory>
     requires settings { AreSettings settings }
+    ensures { IfOk result (AreIdleWarnings trials.now) }
 {
     let Verdict::Consistent(model) = &answer.verdict else {
-        return Ok(Vec::new(alloc));
+        return Ok(IdleWarnings {
+            sentences: List::new(alloc),
+            warnings: Vec::new(alloc),
+        });
     };
     let places = unweighed_places(alloc, trials.problem(), model, answer)?;
-    let idle = idle_among(alloc, settings, trials, places.as_slice(), timed)?;
-    idle_warnings(alloc, input, trials.problem(), idle.as_slice())
+    idle_among(alloc, settings, input, trials, places.as_slice(), timed)
 }

@@ -285,7 +285,7 @@ fn warn_of_conditions<W: Company>(
     let noted = idle_noted(alloc, settings, input, trials, answer, timed);
     timed.watch.clear();
     let text = match noted {
-        Ok(found) => warnings_noted(alloc, input, &found),
+        Ok(found) => warnings_noted(alloc, input, &found.warnings),
         Err(NoMemory) => Err(NoMemory),
     };
     match text {

@@ -1,7 +1,7 @@
 //! What is shown of a problem's sentences and of its queries.
 ghost use Rattle.std.specs.Prelude.{◌≡◌, true, IfOk};
 ghost use Rattle.ps_problem.specs.Problems.{HasNodes};
-ghost use Rattle.ps_guess.specs.Known.{IsKnown};
+ghost use Rattle.ps_guess.specs.Known.{IsKnown, ShowsKnown};
 ghost use Rattle.ps_guess.specs.Solutions.{IsAnsweredPart, IsAnsweredVerdict};
 ghost use Rattle.ps_ask.specs.Shown.{AreSettings};
 ghost use Rattle.ps_ask.specs.Fronts.{IsShownPart, IsShownVerdict};
@@ -88,7 +88,8 @@ fn part_within(
     requires timed { settings.is_timed ≡ true }
     requires query { HasNodes trials.now.nodes query.formula query.given query.both }
     requires known { IsKnown settings.limits trials.now query known }
-    ensures { IsShownPart settings trials.now query result }
+    ensures part { IsShownPart settings trials.now query result }
+    ensures kept { ShowsKnown known result }
 {
     // Called for its clause: the problem is in order.
     let _sound = trials.problem();
@@ -110,7 +111,8 @@ fn whole_part(
     requires settings { AreSettings settings }
     requires query { HasNodes trials.now.nodes query.formula query.given query.both }
     requires known { IsKnown settings.limits trials.now query known }
-    ensures { IfOk result (IsAnsweredPart settings.limits trials.now query) }
+    ensures part { IfOk result (IsAnsweredPart settings.limits trials.now query) }
+    ensures kept { IfOk result (ShowsKnown known) }
 {
     match known {
         Known::Answered(part) => Ok(part),
@@ -121,7 +123,8 @@ fn whole_part(
 }
 
 /// The part of a query of the problem of trials, of which this is known at the end of all turns: where
-/// time was over, with the sides that were found, and else by a run beside them.
+/// time was over, with the sides that were found, and else by a run beside them. Nothing that is known
+/// is lost.
 #[tactic(auto, using(crate::proofs::JudgedLaws::shown_part))]
 pub fn judged_part(
     alloc: Global,
@@ -133,7 +136,8 @@ pub fn judged_part(
     requires settings { AreSettings settings }
     requires query { HasNodes trials.now.nodes query.formula query.given query.both }
     requires pending { IsPending settings trials.now query pending }
-    ensures { IfOk result (IsShownPart settings trials.now query) }
+    ensures part { IfOk result (IsShownPart settings trials.now query) }
+    ensures kept { IfOk result (ShowsKnown pending.known) }
 {
     // Called for its clause: the problem is in order.
     let _sound = trials.problem();

@@ -1,8 +1,9 @@
 //! What wasn't finished within a limit of time.
-ghost use Rattle.std.specs.Prelude.{◌≡◌, [], IfSome};
+ghost use Rattle.std.specs.Prelude.{◌≡◌, []};
 ghost use Rattle.ps_answer.specs.declared.answer.QueryAnswer.TheVariants as query;
 ghost use Rattle.ps_ask.specs.Late.{is_late, is_late_answer, is_late_cause, is_late_in, is_late_side};
-ghost use Rattle.ps_ask.specs.Late.{IsLowerOf, IsUpperOf, is_late_verdict};
+ghost use Rattle.ps_ask.specs.Late.{is_late_verdict};
+ghost use Rattle.ps_guess.specs.Known.{ShowsSides};
 ghost use Rattle.ps_ask.specs.Fronts.{IsJudgedBeside};
 
 use ps_answer::{Answer, Cause, QueryAnswer, QueryPart, SideAnswer, Verdict};
@@ -74,8 +75,7 @@ pub fn is_late(timed: bool, answer: &Answer) -> bool
 #[tactic(auto, using(crate::proofs::JudgedLaws::late_both, crate::proofs::JudgedLaws::late_below, crate::proofs::JudgedLaws::late_above, crate::proofs::JudgedLaws::late_whole))]
 pub fn late_part(alloc: Global, lower: Option<SideAnswer>, upper: Option<SideAnswer>) -> QueryPart
     ensures judged { IsJudgedBeside lower upper result }
-    ensures lower { IfSome lower (IsLowerOf result.answer) }
-    ensures upper { IfSome upper (IsUpperOf result.answer) }
+    ensures shown { ShowsSides lower upper result.answer }
 {
     let answer = match (lower, upper) {
         (Some(least), Some(most)) => sides(alloc, least, most),

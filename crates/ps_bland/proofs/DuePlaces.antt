@@ -17,7 +17,7 @@ use Rattle.ps_bland.specs.Ends.{IsDueWide, IsHomeWide, IsPriced, IsCarriedWide}
 use Rattle.ps_bland.specs.Ends.IsPriced.{as_slack, as_artificial}
 use Rattle.ps_bland.specs.Ends.IsCarriedWide.{of_home, of_world}
 use Rattle.ps_bland.specs.Ends.IsDueWide.{at_cost, at_column, at_ratio, at_pivot}
-use Rattle.ps_bland.specs.DuePlaces.{DuePlace, of_slack, of_artificial, of_price, of_column, of_ratio, of_pivot}
+use Rattle.ps_bland.specs.DuePlaces.{DuePlace, worlds_in, of_slack, of_artificial, of_price, of_column, of_ratio, of_pivot}
 
 -- the right side and the homes, one way and the other
 kept_entry : (t : Tableau) (i j : ℕ) → j < suc (rows_of t) → home_at t i j ≡ entry_at t i j
@@ -28,7 +28,7 @@ entry_kept t i j l = home_is t i j (omega (arith, l))
 
 module _ (phase : Phase) (costs : Costs) (t : Tableau) (left : ℕ) where
   abbrev Due : Operation → Type 0
-  Due = DuePlace phase (simplex_of t) t.worlds (entries_of t) left (cost_at costs)
+  Due = DuePlace phase (simplex_of t) (worlds_in t) left (cost_at costs)
 
   home_there : (w : WideAt) → (IsDueToEndIn phase t → ⊥) → (h : IsHomeWide costs t w) → IsPriced costs t h.row → IsWideAt Due w
   home_there w unfinished h (as_slack real least) = record { at = of_slack h.row (operation_of w) unfinished h.within real least h.wide.at; wide = h.wide.wide }

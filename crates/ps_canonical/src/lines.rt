@@ -1,10 +1,12 @@
 //! The lines of sentences and queries.
 ghost use Rattle.std.specs.Prelude.{◌<◌, IfSome, OnOk, length};
+ghost use Rattle.ps_problem.specs.Problems.{IsSentence};
 ghost use Rattle.ps_canonical.specs.Lines.{Adds, condition_text, probability_text};
 ghost use Rattle.ps_canonical.specs.Lines.{sentence_line, statement_text, query_line};
 
 use crate::formulas::formula;
-use crate::values::{append, relation};
+use crate::terms::write_terms;
+use crate::values::{append, relation, sum_relation};
 use ps_io::NoMemory;
 use ps_problem::{Problem, Query, Sentence};
 use std::alloc::Global;
@@ -48,21 +50,27 @@ pub fn write_probability(
     append(out, b")")
 }
 
-/// Writes a sentence behind what was written: its probability, and how it is bounded.
+/// Writes a sentence behind what was written: its probability or its terms, and how they are bounded.
 pub fn write_statement(
     alloc: Global,
     problem: &Problem,
     sentence: &Sentence,
     out: &mut Vec<u8>,
 ) -> Result<(), NoMemory>
-    requires formula { sentence.now.first.formula < length problem.now.nodes }
-    requires given { IfSome sentence.now.first.given (λ g. g < length problem.now.nodes) }
+    requires { IsSentence problem.now.nodes sentence.now }
     ensures { OnOk result
         (Adds out.old.items out.new.items (statement_text problem.now sentence.now)) }
 {
-    let first = sentence.first;
-    write_probability(alloc, problem, first.formula, first.given, out)?;
-    relation(out, sentence)
+    match sentence {
+        Sentence::Plain { first, second } => {
+            write_probability(alloc, problem, first.formula, first.given, out)?;
+            relation(out, first, *second)
+        }
+        Sentence::Linear(linear) => {
+            write_terms(alloc, problem, linear, out)?;
+            sum_relation(out, linear)
+        }
+    }
 }
 
 // Writes the line of a sentence.
@@ -72,14 +80,11 @@ pub(crate) fn write_sentence(
     sentence: &Sentence,
     out: &mut Vec<u8>,
 ) -> Result<(), NoMemory>
-    requires formula { sentence.now.first.formula < length problem.now.nodes }
-    requires given { IfSome sentence.now.first.given (λ g. g < length problem.now.nodes) }
+    requires { IsSentence problem.now.nodes sentence.now }
     ensures { OnOk result
         (Adds out.old.items out.new.items (sentence_line problem.now sentence.now)) }
 {
-    let first = sentence.first;
-    write_probability(alloc, problem, first.formula, first.given, out)?;
-    relation(out, sentence)?;
+    write_statement(alloc, problem, sentence, out)?;
     append(out, b";\n")
 }
 

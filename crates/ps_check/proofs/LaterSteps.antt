@@ -3,7 +3,7 @@ use Rattle.std.proofs.Common.{◌≡◌, ◌≢◌, ℕ, pos, ◌≤ℤ◌, Bool
 use Rattle.std.proofs.lemmas.Option.{none-some}
 use Rattle.ps_meaning.specs.Rational.{Rational}
 use Rattle.ps_problem.specs.declared.query.Query.{Query}
-use Rattle.ps_problem.specs.Problems.{Parts, bounds_of}
+use Rattle.ps_problem.specs.Problems.{Parts}
 use Rattle.ps_pb.specs.declared.refused.StepRefused.{StepRefused as Why}
 use Rattle.ps_pb.specs.Steps.{Known, first_refusal, ends_in_contradiction}
 use Rattle.ps_pb.proofs.Onward.{none-lawful}
@@ -13,6 +13,7 @@ use Rattle.ps_claims.specs.declared.reason.Reason.TheVariants.{WrongShape, TooMa
 use Rattle.ps_claims.specs.declared.claim_kind.ClaimKind.{ClaimKind}
 use Rattle.ps_claims.specs.declared.claim_kind.ClaimKind.TheVariants.{Nothing}
 use Rattle.ps_claims.specs.Duals.{Dual, HaveSigns}
+use Rattle.ps_claims.specs.Rows.{problem_rows}
 use Rattle.ps_claims.specs.Faults.{HasHead, start_for, IsFirstFault, IsFaultless}
 use Rattle.ps_claims.specs.Claims.{Assertion, Modelled, Excluded, Bounded, HasShape, IsModelRight, IsValidClaim, IsFirstIn}
 use Rattle.ps_claims.proofs.Claims.{first_of_dual}
@@ -49,7 +50,7 @@ module _ (p : Parts) (known : Known) (d : Dual) where
 
   -- where all but the steps is right, the steps decide
   steps_decide : (value : Option Rational) (o : Option (ℕ × Why)) (b : Bool) → first_refusal (length p.nodes) known d.steps ≡ o → ends_in_contradiction d.steps ≡ b
-      → HasHead value d → HaveSigns (bounds_of p) d.rows → IsFoundBy value (reason_by o b)
+      → HasHead value d → HaveSigns (problem_rows p) d.rows → IsFoundBy value (reason_by o b)
   steps_decide value (Some refused) b e f head signs = (head, signs, e)
   steps_decide value None true e f head signs =
       record { head = head; signs = signs; steps = record { lawful = none-lawful (length p.nodes) known d.steps e; contradiction = f } }

@@ -16,7 +16,7 @@ use Rattle.ps_claims.specs.declared.reason.Reason.TheVariants as reason
 use Rattle.ps_claims.specs.Duals.{Dual}
 use Rattle.ps_claims.specs.Goals.{goal_of, combination_of}
 use Rattle.ps_claims.specs.Claims.{Assertion, Modelled}
-use Rattle.ps_problem.specs.Problems.{bounds_in}
+use Rattle.ps_problem.specs.Rows.{rows_in}
 use Rattle.ps_check.specs.declared.subject.Subject.{Subject}
 use Rattle.ps_check.specs.declared.stage.Stage.TheVariants.{Modelling, Refuting, Failed}
 use Rattle.ps_check.specs.Subjects.{claim_on, asserted, checker_for}
@@ -26,7 +26,7 @@ use Rattle.ps_check.specs.Found.{Finds, IsAskedBy, IsCheckerFor, IsOther}
 
 -- the checker of a combination that is asked for
 pub checker_asked : (p : Parts) (s : Subject) (d : Dual) (asked : ClaimKind × (Option ℕ × ℕ)) (checker : Checked) → IsAskedBy p s asked
-    → checker ≡ first_checked (form_of p.nodes) (goal_of (combination_of asked.0 asked.1.0 asked.1.1 (bounds_in p.sentences) d))
+    → checker ≡ first_checked (form_of p.nodes) (goal_of (combination_of asked.0 asked.1.0 asked.1.1 (rows_in p.sentences) d))
     → IsCheckerFor p s d checker
 checker_asked p s d asked checker a e = record {
   is = λ m c x. e ∙ ap (λ sum. first_checked (form_of p.nodes) (goal_of sum)) (sym (a.combination m d c x));

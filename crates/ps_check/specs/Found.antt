@@ -3,6 +3,7 @@ use Rattle.std.specs.Prelude.{ℕ, ◌≡◌, ◌<◌, Option, Some, None, IfSom
 use Rattle.ps_meaning.specs.Rational.{Rational}
 use Rattle.ps_problem.specs.declared.query.Query.{Query}
 use Rattle.ps_problem.specs.Problems.{Parts, HasNodes, bounds_in}
+use Rattle.ps_problem.specs.Rows.{rows_in}
 use Rattle.ps_answer.specs.declared.answer.Model.{Model}
 use Rattle.ps_answer.specs.declared.answer.Dual.{Dual}
 use Rattle.ps_answer.specs.declared.item.LineItem.{LineItem}
@@ -51,7 +52,7 @@ pub record IsAskedBy (p : Parts) (s : Subject) (asked : ClaimKind × (Option ℕ
   pub given : IfSome asked.1.0 (λ g. g < length p.nodes)
   pub both : HasQuery asked.0 → asked.1.1 < length p.nodes
   pub combination : (m : Option Model) (d : claimed.Dual) (c : Assertion) → asserted p s m d ≡ Some c
-      → combination_for p c ≡ combination_of asked.0 asked.1.0 asked.1.1 (bounds_in p.sentences) d
+      → combination_for p c ≡ combination_of asked.0 asked.1.0 asked.1.1 (rows_in p.sentences) d
 
 -- the checker knows what is known before the steps of what is asserted by the dual
 pub record IsCheckerFor (p : Parts) (s : Subject) (d : claimed.Dual) (checker : Checked) : Type 0 where

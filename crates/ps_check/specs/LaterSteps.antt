@@ -1,12 +1,13 @@
 -- Claims by a dual whose steps come later, and what the steps decide.
 use Rattle.std.specs.Prelude.{◌↔◌, ℕ, pos, ◌≤ℤ◌, Bool, Option, Some, None, List, [], All, IfSome}
-use Rattle.ps_problem.specs.Problems.{Parts, bounds_of}
+use Rattle.ps_problem.specs.Problems.{Parts}
 use Rattle.ps_meaning.specs.Rational.{Rational}
 use Rattle.ps_pb.specs.declared.refused.StepRefused.{StepRefused as Why}
 use Rattle.ps_pb.specs.Steps.{Step, ends_in_contradiction}
 use Rattle.ps_claims.specs.declared.reason.Reason.{Reason}
 use Rattle.ps_claims.specs.declared.reason.Reason.TheVariants.{StepRefused, NotRefuted}
 use Rattle.ps_claims.specs.Duals.{HaveSigns}
+use Rattle.ps_claims.specs.Rows.{problem_rows}
 use Rattle.ps_claims.specs.Faults.{HasHead}
 use Rattle.ps_claims.specs.Claims.{Assertion, Modelled, Excluded, Bounded, claimed_model, claimed_dual, IsModelRight, IsFirstIn}
 use Rattle.ps_valid.specs.DualTests.{first_refused_by}
@@ -61,7 +62,7 @@ with_steps_find p c (Some reason) = Some reason
 pub record IsRightButSteps (p : Parts) (c : Assertion) : Type 0 where
   pub model : IsModelRight p c
   pub head : IfSome (claimed_dual c) (HasHead (value_of c))
-  pub signs : IfSome (claimed_dual c) (λ d. HaveSigns (bounds_of p) d.rows)
+  pub signs : IfSome (claimed_dual c) (λ d. HaveSigns (problem_rows p) d.rows)
 
 -- by a dual without steps something is found against each claim; it is the want of steps exactly where nothing else is wrong; and
 -- what is found against the claim is that, or what the steps give

@@ -2,7 +2,8 @@
 use Rattle.std.specs.Prelude.{ℕ, zero, suc, ℤ, Bool, true, false, List, [], length, ◌≤◌, Option, Some, None, IfSome, slice_get}
 use Rattle.ps_meaning.specs.Rational.{Rational}
 use Rattle.ps_problem.specs.declared.query.Query.{Query}
-use Rattle.ps_problem.specs.Problems.{Parts, bounds_in}
+use Rattle.ps_problem.specs.Problems.{Parts}
+use Rattle.ps_problem.specs.Rows.{rows_in}
 use Rattle.ps_clause.specs.Forms.{form_of}
 use Rattle.ps_pbcheck.specs.Checked.{Checked, first_checked}
 use Rattle.ps_answer.specs.declared.answer.Model.{Model}
@@ -64,8 +65,8 @@ without_steps top head rows = record { top = top; head = head; rows = rows; step
 -- the combination that the dual of an assertion weighs; where it has none, nothing
 abbrev pub combination_for : Parts → Assertion → Combination
 combination_for p (Modelled m) = nothing
-combination_for p (Excluded given d) = combination_of Nothing given 0 (bounds_in p.sentences) d
-combination_for p (Bounded kind q value m d) = combination_of kind q.given q.both (bounds_in p.sentences) d
+combination_for p (Excluded given d) = combination_of Nothing given 0 (rows_in p.sentences) d
+combination_for p (Bounded kind q value m d) = combination_of kind q.given q.both (rows_in p.sentences) d
 
 -- what is known before the first step of an assertion's dual
 abbrev pub checker_for : Parts → Assertion → Checked

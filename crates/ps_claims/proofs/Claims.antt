@@ -17,6 +17,8 @@ use Rattle.ps_claims.specs.declared.claim.Claim.{Claim}
 use Rattle.ps_claims.specs.declared.claim.Claim.TheVariants as claim
 use Rattle.ps_claims.specs.declared.reason.Reason.{Reason}
 use Rattle.ps_claims.specs.declared.reason.Reason.TheVariants.{WrongShape, TooManyWorlds, WeightZero, WorldTwice, TotalWrong, BoundMissed, EvidenceZero, ValueMissed, HeadWrong, MultiplierSign, StepRefused, NotRefuted}
+use Rattle.ps_claims.specs.Rows.{problem_rows}
+use Rattle.ps_claims.proofs.ProblemRows.{rows_many}
 use Rattle.ps_claims.specs.Faults.{start_for}
 use Rattle.ps_claims.proofs.Faults.{no_fault}
 use Rattle.ps_claims.specs.Validity.{IsValidVerdict, IsValidSide, IsValidPart, IsValid}
@@ -180,7 +182,7 @@ valid-model p (Modelled m) h = record {
   value = tt;
 }
 valid-model p (Excluded given d) h = record {
-  shape = record { worlds = tt; rows = length-zip (λ b y. HasSign b.side y) (bounds_of p) d.rows h.refuted.signs };
+  shape = record { worlds = tt; rows = length-zip (λ r y. HasSign r.side y) (problem_rows p) d.rows h.refuted.signs ∙ rows_many p };
   few = tt;
   proper = tt;
   total = tt;
@@ -189,7 +191,7 @@ valid-model p (Excluded given d) h = record {
   value = tt;
 }
 valid-model p (Bounded kind q value m d) h = record {
-  shape = record { worlds = h.reached.allowed.model.distribution.worlds; rows = length-zip (λ b y. HasSign b.side y) (bounds_of p) d.rows h.refuted.signs };
+  shape = record { worlds = h.reached.allowed.model.distribution.worlds; rows = length-zip (λ r y. HasSign r.side y) (problem_rows p) d.rows h.refuted.signs ∙ rows_many p };
   few = h.basic.few;
   proper = entries-proper (length p.names) m.worlds h.reached.allowed.model.distribution;
   total = model-total (length p.names) m h.reached.allowed.model.distribution h.basic.total;

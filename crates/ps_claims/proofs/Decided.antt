@@ -1,5 +1,5 @@
 -- Either a claim is valid, or it has a first fault.
-use Rattle.std.proofs.Common.{◌≡◌, ◌≢◌, ◌⊎◌, inl, inr, ℕ, zero, suc, ◌+◌, ◌<◌, ◌≤◌, ℤ, pos, negsuc, ◌*ℤ◌, ◌≤ℤ◌, Bool, true, false, true≢false, Option, Some, None, List, [], ◌∷◌, length, get_or, take, All, refl, sym, arith}
+use Rattle.std.proofs.Common.{◌≡◌, ◌≢◌, ◌⊎◌, inl, inr, ℕ, zero, suc, ◌+◌, ◌<◌, ◌≤◌, ℤ, pos, negsuc, ◌≤ℤ◌, Bool, true, false, true≢false, Option, Some, None, List, [], ◌∷◌, length, get_or, take, All, refl, sym, arith}
 use Rattle.std.specs.Prelude.{slice_get, IsSomeAnd, Any}
 use Rattle.std.specs.Option.{IfSome}
 use Rattle.std.proofs.lemmas.Int.{ints}
@@ -9,11 +9,13 @@ use Rattle.std.proofs.lemmas.List.Elements.{All-head, All-tail, All-cons, All-ni
 use Rattle.std.proofs.lemmas.List.Quantifiers.{all_pairs_push}
 use Rattle.std.proofs.Math.Seq.{take-length}
 use Rattle.ps_meaning.proofs.Weights.{weight-nonneg}
-use Rattle.ps_meaning.specs.Formula.{World, And}
+use Rattle.ps_meaning.specs.Formula.{World}
 use Rattle.ps_meaning.specs.Distribution.{Entry, weight, total}
 use Rattle.ps_meaning.specs.declared.side.Side.{Side}
 use Rattle.ps_meaning.specs.declared.side.Side.TheVariants.{AtLeast, AtMost, Exactly}
 use Rattle.ps_meaning.specs.Bounds.{Bound, Compares, MeetsBound, MeetsAll}
+use Rattle.ps_meaning.specs.Rows.{row_of, row_in, weighted_sum}
+use Rattle.ps_meaning.proofs.BoundRows.{bounds_are_rows}
 use Rattle.ps_problem.specs.declared.query.Query as stored
 use Rattle.ps_problem.specs.Problems.{Parts, bounds_of, given_at}
 use Rattle.ps_meaning.specs.Rational.{Rational}
@@ -122,7 +124,10 @@ compares_cases AtMost x y = least_cases x y
 compares_cases Exactly x y = int_equal_cases x y
 
 meets_cases : (b : Bound) (d : List Entry) → MeetsBound b d ⊎ ¬ MeetsBound b d
-meets_cases b d = compares_cases b.side (b.den *ℤ weight d (And b.formula b.given)) (b.num *ℤ weight d b.given)
+meets_cases b d = elim (compares_cases (row_of b).side (weighted_sum d (row_in (row_of b))) (pos 0)) [
+  | inr missed ↦ inr (λ met. missed ((bounds_are_rows b d).0 met))
+  | inl met ↦ inl ((bounds_are_rows b d).1 met)
+]
 
 later_missed : (b : Bound) (bs : List Bound) (d : List Entry) → MeetsBound b d → ((n : ℕ) × MissesFirst bs d n) → (n : ℕ) × MissesFirst (b ∷ bs) d n
 later_missed b bs d met f = (suc f.0, (suc f.1.0, omega (arith, f.1.1), All-cons (λ x. MeetsBound x d) b (take f.1.0 bs) met f.1.2, f.1.3))

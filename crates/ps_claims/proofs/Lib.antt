@@ -1,5 +1,6 @@
 pub mod Products
 pub mod Tight
+pub mod ProblemRows
 pub mod Sums
 pub mod Duality
 pub mod NodeSums

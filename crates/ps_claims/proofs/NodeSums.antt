@@ -1,20 +1,21 @@
 -- Combinations over nodes have at a world's extension the values of combinations in the world.
-use Rattle.std.proofs.Common.{◌≡◌, ℕ, ◌<◌, ℤ, pos, ◌+ℤ◌, ◌-ℤ◌, ◌*ℤ◌, neg_ℤ, Bool, true, false, cond, Option, Some, None, List, [], ◌∷◌, ◌++◌, length, map, All, refl, sym, ap, ◌∙◌, arith}
+use Rattle.std.proofs.Common.{◌≡◌, ℕ, ◌<◌, ℤ, pos, ◌+ℤ◌, ◌*ℤ◌, neg_ℤ, Bool, true, false, cond, Option, Some, None, List, [], ◌∷◌, ◌++◌, length, map, All, refl, sym, ap, ◌∙◌, arith}
 use Rattle.std.specs.Option.{IfSome}
 use Rattle.std.proofs.lemmas.Int.{ints}
 use Rattle.std.proofs.Math.Bool.{and-true}
 use Rattle.std.proofs.lemmas.List.{get_or_default}
 use Rattle.std.proofs.lemmas.List.Elements.{All-head, All-tail}
 use Rattle.ps_meaning.specs.Formula.{World, And, is_true}
-use Rattle.ps_meaning.specs.Rows.{indicator, row_value}
-use Rattle.ps_meaning.proofs.Integers.{mul_sub, mul_assoc, mul-zero, mul-one}
+use Rattle.ps_meaning.specs.Rows.{indicator, terms_in, row_in}
+use Rattle.ps_meaning.proofs.Integers.{mul_add, mul-zero, mul-one}
 use Rattle.ps_meaning.proofs.IntRing.{neg-*ℤ}
 use Rattle.ps_formula.specs.declared.node.Node.{Node}
 use Rattle.ps_formula.specs.Nodes.{truths}
 use Rattle.ps_formula.proofs.Trees.{length-truths, truths-at}
-use Rattle.ps_problem.specs.declared.bound.Bound.{Bound}
+use Rattle.ps_problem.specs.declared.row.Row.{Row}
 use Rattle.ps_problem.specs.declared.query.Query as stored
-use Rattle.ps_problem.specs.Problems.{tree_at, given_at, bound_of, IsBoth, HasNodes, IsBound}
+use Rattle.ps_problem.specs.Problems.{tree_at, given_at, weights_at, IsBoth, HasNodes, IsTerm}
+use Rattle.ps_problem.specs.Rows.{row_of, IsRow}
 use Rattle.ps_pb.specs.Weights.{Weighted, true_weight}
 use Rattle.ps_pb.specs.Assignments.{holds}
 use Rattle.ps_clause.specs.Extensions.{extension}
@@ -23,7 +24,7 @@ use Rattle.ps_clause.proofs.Tidy.{holds-positive}
 use Rattle.ps_claims.specs.Queries.{Query}
 use Rattle.ps_claims.specs.Duals.{Dual, ClaimKind, Nothing, Lower, Upper, sum_of_rows, claimed_in, combination}
 use Rattle.ps_claims.specs.Validity.{query_of}
-use Rattle.ps_claims.specs.Goals.{Combination, value_under, plus, at_node, at_condition, row_times, rows_times, claimed_of, combination_of}
+use Rattle.ps_claims.specs.Goals.{Combination, value_under, plus, at_node, at_condition, term_times, row_times, rows_times, claimed_of, combination_of}
 
 true_weight-append : (v : List Bool) (ts us : Weighted) → true_weight v (ts ++ us) ≡ true_weight v ts +ℤ true_weight v us
 true_weight-append v [] us = omega (arith, ints)
@@ -56,23 +57,30 @@ value-both : (ns : List Node) (w : World) (k : ℤ) (formula : ℕ) (given : Opt
     → value_under (extension ns w) (at_node k both) ≡ k *ℤ indicator (And (tree_at ns formula) (given_at ns given)) w
 value-both ns w k formula given both has = value-node ns w k both has.both_there ∙ ap (λ z. k *ℤ z) (both-indicator ns w formula given both has.both_is)
 
--- y*(m*a - n*c) is (y*m)*a + (-(y*n))*c
-times_difference : (y m n a c : ℤ) → (((y *ℤ m) *ℤ a) +ℤ (neg_ℤ (y *ℤ n) *ℤ c)) ≡ (y *ℤ ((m *ℤ a) -ℤ (n *ℤ c)))
-times_difference y m n a c = omega (arith, ints, mul_sub y (m *ℤ a) (n *ℤ c), mul_assoc y m a, mul_assoc y n c, neg-*ℤ (y *ℤ n) c)
+-- a term times a multiplier, and others behind it
+term-times : (b : Bool) (y k r : ℤ) → (cond b (y *ℤ k) (pos 0) +ℤ (y *ℤ r)) ≡ (y *ℤ ((k *ℤ cond b (pos 1) (pos 0)) +ℤ r))
+term-times true y k r = let o = mul-one k in rw o (let m = mul_add y k r in omega (arith, ints, m))
+term-times false y k r = let o = mul-zero k in rw o (let m = mul_add y (pos 0) r in let z = mul-zero y in omega (arith, ints, m, z))
 
-value-row : (ns : List Node) (w : World) (y : ℤ) (b : Bound) → HasNodes ns b.formula b.given b.both → value_under (extension ns w) (row_times y b) ≡ y *ℤ row_value (bound_of ns b) w
-value-row ns w y b has =
-    let k = y *ℤ pos b.den in
-    let l = neg_ℤ (y *ℤ pos b.num) in
-    rw (value-plus (extension ns w) (at_node k b.both) (at_condition l b.given), value-both ns w k b.formula b.given b.both has, value-condition ns w l b.given has.given_there)
-    (times_difference y (pos b.den) (pos b.num) (indicator (And (tree_at ns b.formula) (given_at ns b.given)) w) (indicator (given_at ns b.given) w))
+value-terms : (ns : List Node) (w : World) (y : ℤ) (ts : List (ℕ × ℤ)) → All (IsTerm ns) ts
+    → true_weight (extension ns w) (map (term_times y) ts) ≡ y *ℤ terms_in (weights_at ns ts) w
+value-terms ns w y [] are = sym (mul-zero y)
+value-terms ns w y (t ∷ ts) are =
+    let lt : t.0 < length ns = All-head (IsTerm ns) t ts are in
+    rw (node-holds ns w t.0 lt, value-terms ns w y ts (All-tail (IsTerm ns) t ts are))
+    (term-times (is_true (tree_at ns t.0) w) y t.1 (terms_in (weights_at ns ts) w))
 
-value-rows : (ns : List Node) (w : World) (ys : List ℤ) (bs : List Bound) → All (IsBound ns) bs → value_under (extension ns w) (rows_times ys bs) ≡ sum_of_rows (map (bound_of ns) bs) ys w
+value-row : (ns : List Node) (w : World) (y : ℤ) (r : Row) → IsRow ns r → value_under (extension ns w) (row_times y r) ≡ y *ℤ row_in (row_of ns r) w
+value-row ns w y r is =
+    let e = value-terms ns w y r.terms is.nodes in
+    let m = mul_add y r.base (terms_in (weights_at ns r.terms) w) in
+    omega (arith, ints, e, m)
+
+value-rows : (ns : List Node) (w : World) (ys : List ℤ) (rs : List Row) → All (IsRow ns) rs → value_under (extension ns w) (rows_times ys rs) ≡ sum_of_rows (map (row_of ns) rs) ys w
 value-rows ns w ys [] are = refl
-value-rows ns w [] (b ∷ bs) are = refl
-value-rows ns w (y ∷ ys) (b ∷ bs) are =
-    let first : IsBound ns b = All-head (IsBound ns) b bs are in
-    rw (value-plus (extension ns w) (row_times y b) (rows_times ys bs), value-row ns w y b first.nodes, value-rows ns w ys bs (All-tail (IsBound ns) b bs are)) refl
+value-rows ns w [] (r ∷ rs) are = refl
+value-rows ns w (y ∷ ys) (r ∷ rs) are =
+    rw (value-plus (extension ns w) (row_times y r) (rows_times ys rs), value-row ns w y r (All-head (IsRow ns) r rs are), value-rows ns w ys rs (All-tail (IsRow ns) r rs are)) refl
 
 -- the claim that nothing is allowed speaks of the evidence alone
 pub value-nothing : (ns : List Node) (w : World) (given : Option ℕ) (both : ℕ) (q : Query) (d : Dual) → IfSome given (λ g. g < length ns) → q.evidence ≡ given_at ns given
@@ -104,8 +112,8 @@ value-claimed Upper ns w q d has =
     )
 
 -- a combination over nodes, where its claim has the value of the claim in the world
-pub value-combination : (kind : ClaimKind) (ns : List Node) (w : World) (given : Option ℕ) (both : ℕ) (bs : List Bound) (q : Query) (d : Dual) → All (IsBound ns) bs
+pub value-combination : (kind : ClaimKind) (ns : List Node) (w : World) (given : Option ℕ) (both : ℕ) (rs : List Row) (q : Query) (d : Dual) → All (IsRow ns) rs
     → value_under (extension ns w) (claimed_of kind given both d) ≡ claimed_in kind q d w
-    → value_under (extension ns w) (combination_of kind given both bs d) ≡ combination kind (map (bound_of ns) bs) q d w
-value-combination kind ns w given both bs q d are claim =
-    omega (arith, ints, value-plus (extension ns w) (claimed_of kind given both d) (rows_times d.rows bs), claim, value-rows ns w d.rows bs are)
+    → value_under (extension ns w) (combination_of kind given both rs d) ≡ combination kind (map (row_of ns) rs) q d w
+value-combination kind ns w given both rs q d are claim =
+    omega (arith, ints, value-plus (extension ns w) (claimed_of kind given both d) (rows_times d.rows rs), claim, value-rows ns w d.rows rs are)

@@ -7,35 +7,39 @@ use Rattle.ps_meaning.specs.Formula.{World, Truth}
 use Rattle.ps_meaning.specs.declared.side.Side.TheVariants.{AtLeast, AtMost}
 use Rattle.ps_meaning.proofs.Weights.{total-positive}
 use Rattle.ps_problem.specs.declared.query.Query as stored
-use Rattle.ps_problem.specs.Problems.{Parts, AreParts, bounds_in, bounds_of, given_at, HasNodes}
+use Rattle.ps_problem.specs.Problems.{Parts, AreParts, bounds_of, given_at, HasNodes}
+use Rattle.ps_problem.specs.Rows.{rows_in}
+use Rattle.ps_problem.proofs.BoundRows.{are-rows}
 use Rattle.ps_clause.specs.Extensions.{extension}
 use Rattle.ps_claims.specs.Queries.{Query, IsInconsistent, IsImpossible}
 use Rattle.ps_claims.specs.Answers.{Verdict, Consistent, Inconsistent, OpenVerdict, SideAnswer, Value, OpenSide, QueryAnswer, Interval, Impossible, OpenQuery, Answer, IsRightVerdict, IsRightSide, IsRightPart, asked_under}
 use Rattle.ps_claims.specs.Duals.{Dual, ClaimKind, Nothing, Lower, Upper, claimed_in, combination, IsNeverAbove}
 use Rattle.ps_claims.specs.Goals.{value_under, claimed_of, combination_of}
 use Rattle.ps_claims.specs.Validity.{query_of, IsRefuted, ShowsNothing, IsValidVerdict, IsValidSide, IsValidPart, IsValid, IsRightFor}
+use Rattle.ps_claims.specs.Rows.{problem_rows}
+use Rattle.ps_claims.proofs.ProblemRows.{problem-rows}
 use Rattle.ps_claims.proofs.Duality.{shows_nothing, shows_lower, shows_upper}
 use Rattle.ps_claims.proofs.NodeSums.{value-nothing, value-claimed, value-combination}
 use Rattle.ps_claims.proofs.Refutations.{refuted-least}
 
 never_above-by : (p : Parts) (kind : ClaimKind) (given : Option ℕ) (both : ℕ) (q : Query) (d : Dual) → AreParts p → IsRefuted p kind given both d
     → ((w : World) → value_under (extension p.nodes w) (claimed_of kind given both d) ≡ claimed_in kind q d w)
-    → IsNeverAbove (length p.names) (combination kind (bounds_of p) q d)
+    → IsNeverAbove (length p.names) (combination kind (problem_rows p) q d)
 never_above-by p kind given both q d are refuted claim = record {
   at = λ w long.
-      rw (← value-combination kind p.nodes w given both (bounds_in p.sentences) q d are.bounds (claim w))
-      (refuted-least (length p.nodes) p.nodes w (combination_of kind given both (bounds_in p.sentences) d) d.steps are.nodes refuted.steps);
+      rw (← value-combination kind p.nodes w given both (rows_in p.sentences) q d (are-rows p.nodes p.sentences are.bounds) (claim w))
+      (refuted-least (length p.nodes) p.nodes w (combination_of kind given both (rows_in p.sentences) d) d.steps are.nodes refuted.steps);
 }
 
 -- a refuted combination is above 0 in no world
 pub never_above : (p : Parts) (kind : ClaimKind) (q : stored.Query) (d : Dual) → AreParts p → HasNodes p.nodes q.formula q.given q.both → IsRefuted p kind q.given q.both d
-    → IsNeverAbove (length p.names) (combination kind (bounds_of p) (query_of p.nodes q) d)
+    → IsNeverAbove (length p.names) (combination kind (problem_rows p) (query_of p.nodes q) d)
 never_above p kind q d are has refuted = never_above-by p kind q.given q.both (query_of p.nodes q) d are refuted (λ w. value-claimed kind p.nodes w q d has)
 
 valid-nothing : (p : Parts) (given : Option ℕ) (d : Dual) → AreParts p → IfSome given (λ g. g < length p.nodes) → ShowsNothing p given d → IsImpossible (length p.names) (bounds_of p) (given_at p.nodes given)
 valid-nothing p given d are there shows =
     let q : Query = record { formula = Truth; evidence = given_at p.nodes given } in
-    shows_nothing (length p.names) (bounds_of p) q d shows.refuted.signs shows.head
+    shows_nothing (length p.names) (bounds_of p) (problem_rows p) q d (problem-rows p are) shows.refuted.signs shows.head
     (never_above-by p Nothing given 0 q d are shows.refuted (λ w. value-nothing p.nodes w given 0 q d there refl))
 
 -- truth has positive probability in each distribution
@@ -50,7 +54,7 @@ valid-verdict p OpenVerdict are valid = tt
 valid-lower : (p : Parts) (q : stored.Query) (s : SideAnswer Dual) → AreParts p → HasNodes p.nodes q.formula q.given q.both → IsValidSide p Lower q s
     → IsRightSide (length p.names) (bounds_of p) (query_of p.nodes q) AtLeast s
 valid-lower p q (Value value m d) are has valid = record {
-  holds = shows_lower (length p.names) (bounds_of p) (query_of p.nodes q) value d valid.refuted.signs valid.head (never_above p Lower q d are has valid.refuted);
+  holds = shows_lower (length p.names) (bounds_of p) (problem_rows p) (query_of p.nodes q) value d (problem-rows p are) valid.refuted.signs valid.head (never_above p Lower q d are has valid.refuted);
   reached = valid.reached;
   basic = valid.basic;
 }
@@ -59,7 +63,7 @@ valid-lower p q OpenSide are has valid = tt
 valid-upper : (p : Parts) (q : stored.Query) (s : SideAnswer Dual) → AreParts p → HasNodes p.nodes q.formula q.given q.both → IsValidSide p Upper q s
     → IsRightSide (length p.names) (bounds_of p) (query_of p.nodes q) AtMost s
 valid-upper p q (Value value m d) are has valid = record {
-  holds = shows_upper (length p.names) (bounds_of p) (query_of p.nodes q) value d valid.refuted.signs valid.head (never_above p Upper q d are has valid.refuted);
+  holds = shows_upper (length p.names) (bounds_of p) (problem_rows p) (query_of p.nodes q) value d (problem-rows p are) valid.refuted.signs valid.head (never_above p Upper q d are has valid.refuted);
   reached = valid.reached;
   basic = valid.basic;
 }

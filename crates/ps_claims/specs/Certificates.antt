@@ -1,8 +1,9 @@
 -- The models and duals that certificates hold, as claims speak of them, and how great the numbers of duals may be.
 use Rattle.std.specs.Prelude.{◌≢◌, ℕ, ℤ, ◌≤◌, List, map, Option, All, unsigned_abs}
 use Rattle.ps_meaning.specs.Distribution.{Entry}
-use Rattle.ps_problem.specs.declared.bound.Bound.{Bound}
-use Rattle.ps_problem.specs.Problems.{Parts, bounds_in}
+use Rattle.ps_problem.specs.declared.row.Row.{Row}
+use Rattle.ps_problem.specs.Problems.{Parts}
+use Rattle.ps_problem.specs.Rows.{rows_in}
 use Rattle.ps_answer.specs.declared.answer.Weighted.{Weighted}
 use Rattle.ps_answer.specs.declared.answer.Model.{Model}
 use Rattle.ps_answer.specs.declared.answer.Dual.{Dual}
@@ -40,13 +41,13 @@ pub record IsSmallDual (d : Dual) : Type 0 where
   pub head : IsMultiplier d.head
   pub rows : All IsMultiplier d.rows
 
--- the combination of a claim and the rows of bounds, by a dual
-abbrev pub combination_by : List Bound → ClaimKind → Option ℕ → ℕ → Dual → Combination
-combination_by bounds kind given both d = combination_of kind given both bounds (dual_of d)
+-- the combination of a claim and rows, by a dual
+abbrev pub combination_by : List Row → ClaimKind → Option ℕ → ℕ → Dual → Combination
+combination_by rows kind given both d = combination_of kind given both rows (dual_of d)
 
 -- the combination of a claim on a problem and the rows of its bounds, by a dual
 abbrev pub combination_on : Parts → ClaimKind → Option ℕ → ℕ → Dual → Combination
-combination_on p kind given both d = combination_by (bounds_in p.sentences) kind given both d
+combination_on p kind given both d = combination_by (rows_in p.sentences) kind given both d
 
 -- a claim of this kind is on a query
 abbrev pub HasQuery : ClaimKind → Type 0

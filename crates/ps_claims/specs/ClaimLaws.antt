@@ -3,9 +3,11 @@ use Rattle.std.specs.Prelude.{◌≡◌, ◌≤◌, ◌<◌, ◌*ℤ◌, ◌⊎�
 use Rattle.ps_meaning.specs.Formula.{World}
 use Rattle.ps_meaning.specs.declared.side.Side.TheVariants.{AtLeast, AtMost}
 use Rattle.ps_meaning.specs.Bounds.{Bound}
+use Rattle.ps_meaning.specs.Rows.{Row}
 use Rattle.ps_meaning.specs.declared.limits.TheConstants.{PRINTED_LIMIT}
 use Rattle.ps_meaning.specs.Rational.{Rational, fraction}
-use Rattle.ps_problem.specs.Problems.{Parts, AreParts, bounds_of, bounds_in, HasNodes}
+use Rattle.ps_problem.specs.Problems.{Parts, AreParts, bounds_of, HasNodes}
+use Rattle.ps_problem.specs.Rows.{rows_in}
 use Rattle.ps_problem.specs.declared.query.Query as stored
 use Rattle.ps_pb.specs.Constraints.{IsMet}
 use Rattle.ps_clause.specs.Extensions.{extension}
@@ -17,46 +19,52 @@ use Rattle.ps_claims.specs.Duals.{Dual, ClaimKind, Nothing, Lower, Upper, HaveSi
 use Rattle.ps_claims.specs.Duals.{kept_of, AreZeroElsewhere, combination, IsNeverAbove, HasNothingHead, HasValueHead}
 use Rattle.ps_claims.specs.Goals.{Combination, value_under, size_of, combination_of, goal_of}
 use Rattle.ps_claims.specs.Limits.{most_combination}
+use Rattle.ps_claims.specs.Rows.{problem_rows, AreRowsOf}
 use Rattle.ps_claims.specs.Faults.{start_for, IsFaultless, IsFirstFault}
 use Rattle.ps_claims.specs.Claims.{claims_of, HasParts, AreValid, HaveWeightsNotBelow0, IsRefused}
 use Rattle.ps_claims.specs.Validity.{query_of, IsRefuted, IsValid, IsRightFor}
 
+-- each bound of a problem is met exactly where its row is
+abbrev pub ProblemsHaveRows : Type 0
+ProblemsHaveRows = (p : Parts) → AreParts p → AreRowsOf (bounds_of p) (problem_rows p)
+
 -- a dual of head at least 1 and top 0 shows that no distribution is allowed
 abbrev pub DualsExcludeAll : Type 0
-DualsExcludeAll = (atoms : ℕ) (bounds : List Bound) (q : Query) (d : Dual) → HaveSigns bounds d.rows → HasNothingHead d
-    → IsNeverAbove atoms (combination Nothing bounds q d) → IsImpossible atoms bounds q.evidence
+DualsExcludeAll = (atoms : ℕ) (bounds : List Bound) (rows : List Row) (q : Query) (d : Dual) → AreRowsOf bounds rows
+    → HaveSigns rows d.rows → HasNothingHead d
+    → IsNeverAbove atoms (combination Nothing rows q d) → IsImpossible atoms bounds q.evidence
 
 -- it shows so of the bounds that are kept, where each is whose multiplier isn't 0
 abbrev pub KeptBoundsExcludeAll : Type 0
-KeptBoundsExcludeAll = (atoms : ℕ) (kept : List Bool) (bounds : List Bound) (q : Query) (d : Dual)
-    → HaveSigns bounds d.rows → AreZeroElsewhere kept d.rows
-    → HasNothingHead d → IsNeverAbove atoms (combination Nothing bounds q d) → IsImpossible atoms (kept_of kept bounds) q.evidence
+KeptBoundsExcludeAll = (atoms : ℕ) (kept : List Bool) (bounds : List Bound) (rows : List Row) (q : Query) (d : Dual)
+    → AreRowsOf bounds rows → HaveSigns rows d.rows → AreZeroElsewhere kept d.rows
+    → HasNothingHead d → IsNeverAbove atoms (combination Nothing rows q d) → IsImpossible atoms (kept_of kept bounds) q.evidence
 
 -- a dual whose head over its top is the value shows that the query's probability is at least the value
 abbrev pub DualsBoundBelow : Type 0
-DualsBoundBelow = (atoms : ℕ) (bounds : List Bound) (q : Query) (value : Rational) (d : Dual)
-    → HaveSigns bounds d.rows → HasValueHead value d
-    → IsNeverAbove atoms (combination Lower bounds q d) → Holds atoms bounds q AtLeast value
+DualsBoundBelow = (atoms : ℕ) (bounds : List Bound) (rows : List Row) (q : Query) (value : Rational) (d : Dual)
+    → AreRowsOf bounds rows → HaveSigns rows d.rows → HasValueHead value d
+    → IsNeverAbove atoms (combination Lower rows q d) → Holds atoms bounds q AtLeast value
 
 -- a dual whose head over its top is the value shows that the query's probability is at most the value
 abbrev pub DualsBoundAbove : Type 0
-DualsBoundAbove = (atoms : ℕ) (bounds : List Bound) (q : Query) (value : Rational) (d : Dual)
-    → HaveSigns bounds d.rows → HasValueHead value d
-    → IsNeverAbove atoms (combination Upper bounds q d) → Holds atoms bounds q AtMost value
+DualsBoundAbove = (atoms : ℕ) (bounds : List Bound) (rows : List Row) (q : Query) (value : Rational) (d : Dual)
+    → AreRowsOf bounds rows → HaveSigns rows d.rows → HasValueHead value d
+    → IsNeverAbove atoms (combination Upper rows q d) → Holds atoms bounds q AtMost value
 
 -- a combination over nodes has at a world's extension the value of the combination in the world
 abbrev pub CombinationsAreSums : Type 0
 CombinationsAreSums = (p : Parts) (kind : ClaimKind) (q : stored.Query) (d : Dual) (w : World) → AreParts p
     → HasNodes p.nodes q.formula q.given q.both
-    → value_under (extension p.nodes w) (combination_of kind q.given q.both (bounds_in p.sentences) d)
-    ≡ combination kind (bounds_of p) (query_of p.nodes q) d w
+    → value_under (extension p.nodes w) (combination_of kind q.given q.both (rows_in p.sentences) d)
+    ≡ combination kind (problem_rows p) (query_of p.nodes q) d w
 
 -- by a dual of numbers that can be printed, the sizes in a combination sum to at most that
 abbrev pub CombinationsAreSmall : Type 0
 CombinationsAreSmall = (p : Parts) (kind : ClaimKind) (given : Option ℕ) (both : ℕ) (d : Dual) → AreParts p
     → All (λ y. unsigned_abs y ≤ PRINTED_LIMIT) d.rows
     → unsigned_abs d.head ≤ PRINTED_LIMIT → unsigned_abs d.top ≤ PRINTED_LIMIT
-    → size_of (combination_of kind given both (bounds_in p.sentences) d) ≤ most_combination
+    → size_of (combination_of kind given both (rows_in p.sentences) d) ≤ most_combination
 
 -- the goal of a combination is met exactly where the combination's value is at least 1
 abbrev pub GoalsSayAtLeastOne : Type 0
@@ -66,7 +74,7 @@ GoalsSayAtLeastOne = (v : List Bool) (c : Combination) → IsMet v (goal_of c) �
 abbrev pub RefutedGoalsBoundCombinations : Type 0
 RefutedGoalsBoundCombinations = (p : Parts) (kind : ClaimKind) (q : stored.Query) (d : Dual) → AreParts p
     → HasNodes p.nodes q.formula q.given q.both
-    → IsRefuted p kind q.given q.both d → IsNeverAbove (length p.names) (combination kind (bounds_of p) (query_of p.nodes q) d)
+    → IsRefuted p kind q.given q.both d → IsNeverAbove (length p.names) (combination kind (problem_rows p) (query_of p.nodes q) d)
 
 -- nothing is wrong with a dual that has a multiplier for each bound, or there is a first fault
 abbrev pub DualsAreFaultlessOrFaulty : Type 0

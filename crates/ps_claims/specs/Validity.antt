@@ -3,7 +3,8 @@ use Rattle.std.specs.Prelude.{ℕ, Option, None, List, length, map}
 use Rattle.std.specs.List.{AllZip}
 use Rattle.ps_formula.specs.declared.node.Node.{Node}
 use Rattle.ps_problem.specs.declared.query.Query as stored
-use Rattle.ps_problem.specs.Problems.{Parts, bounds_in, bounds_of, tree_at, given_at}
+use Rattle.ps_problem.specs.Problems.{Parts, bounds_of, tree_at, given_at}
+use Rattle.ps_problem.specs.Rows.{rows_in}
 use Rattle.ps_meaning.specs.Rational.{Rational}
 use Rattle.ps_pb.specs.Steps.{Refutes}
 use Rattle.ps_clause.specs.Forms.{form_of, first_known}
@@ -13,6 +14,7 @@ use Rattle.ps_claims.specs.Answers.{Value, OpenSide, QueryAnswer, Interval, Impo
 use Rattle.ps_claims.specs.Answers.{Answer, IsBasicModel, ShowsConsistent, asked_under, IsRight}
 use Rattle.ps_claims.specs.Duals.{Dual, ClaimKind, Nothing, Lower, Upper, HaveSigns, HasNothingHead, HasValueHead}
 use Rattle.ps_claims.specs.Goals.{combination_of, goal_of}
+use Rattle.ps_claims.specs.Rows.{problem_rows}
 
 -- the query that a query's numbers stand for
 abbrev pub query_of : List Node → stored.Query → Query
@@ -20,9 +22,9 @@ query_of ns q = record { formula = tree_at ns q.formula; evidence = given_at ns 
 
 -- no multiplier is of the wrong sign, and the steps refute, with the clause form, that the combination is at least 1
 pub record IsRefuted (p : Parts) (kind : ClaimKind) (given : Option ℕ) (both : ℕ) (d : Dual) : Type 0 where
-  pub signs : HaveSigns (bounds_of p) d.rows
+  pub signs : HaveSigns (problem_rows p) d.rows
   pub steps : Refutes (length p.nodes) (first_known (form_of p.nodes)
-      (goal_of (combination_of kind given both (bounds_in p.sentences) d))) d.steps
+      (goal_of (combination_of kind given both (rows_in p.sentences) d))) d.steps
 
 -- a dual that shows that no distribution gives the evidence positive probability
 pub record ShowsNothing (p : Parts) (given : Option ℕ) (d : Dual) : Type 0 where

@@ -1,5 +1,6 @@
 //! Laws about the definitions: a call does nothing, and its clauses are the law.
-ghost use Rattle.ps_claims.specs.ClaimLaws.{DualsExcludeAll, KeptBoundsExcludeAll, DualsBoundBelow, DualsBoundAbove};
+ghost use Rattle.ps_claims.specs.ClaimLaws.{ProblemsHaveRows, DualsExcludeAll, KeptBoundsExcludeAll};
+ghost use Rattle.ps_claims.specs.ClaimLaws.{DualsBoundBelow, DualsBoundAbove};
 ghost use Rattle.ps_claims.specs.ClaimLaws.{CombinationsAreSums, CombinationsAreSmall, GoalsSayAtLeastOne};
 ghost use Rattle.ps_claims.specs.ClaimLaws.{RefutedGoalsBoundCombinations, HeadsAreQuotients};
 ghost use Rattle.ps_claims.specs.ClaimLaws.{DualsAreFaultlessOrFaulty, FaultlessDualsHaveNoFault};
@@ -7,7 +8,12 @@ ghost use Rattle.ps_claims.specs.ClaimLaws.{ValidAnswersAreRight};
 ghost use Rattle.ps_claims.specs.ClaimLaws.{ValidAnswersHaveValidClaims, AnswersAreValidOrRefused};
 ghost use Rattle.ps_claims.specs.ClaimLaws.{ValidAnswersAreNotRefused};
 
-/// Weak duality. Where no multiplier is of the wrong sign and the combination is above 0 in no
+/// Each bound of a problem, plain or linear, is met by exactly the distributions that meet its row.
+pub fn problems_have_rows()
+    ensures rows { ProblemsHaveRows }
+{}
+
+/// Weak duality over the rows of bounds. Where no multiplier is of the wrong sign and the combination is above 0 in no
 /// world, what a dual's head says is true of every distribution: none is allowed, even by those
 /// bounds alone whose multiplier isn't 0, or the query's probability is on its side of the value.
 pub fn duals_bound_probabilities()

@@ -1,27 +1,26 @@
 //! The combination of a claim and the bounds' rows.
-ghost use Rattle.std.specs.Prelude.{◌≡◌, ◌≤◌, ◌<◌, ◌+◌, ◌*◌, ◌^◌, ◌*ℤ◌, pos, length, All};
+ghost use Rattle.std.specs.Prelude.{◌≡◌, ◌≤◌, ◌<◌, ◌+◌, ◌*◌, ◌^◌, ◌*ℤ◌, None, length, All};
 ghost use Rattle.std.specs.Prelude.{IfOk, OnOk, IfSome, unsigned_abs};
-ghost use Rattle.ps_problem.specs.declared.limits.TheConstants.{MOST_BOUNDS, MOST_DENOMINATOR};
+ghost use Rattle.ps_problem.specs.declared.limits.TheConstants.{MOST_BOUNDS, MOST_SIZES};
 ghost use Rattle.ps_problem.specs.Problems.{bounds_in};
 ghost use Rattle.ps_claims.specs.Limits.{most_combination};
 ghost use Rattle.ps_meaning.specs.declared.limits.TheConstants.{PRINTED_LIMIT};
-ghost use Rattle.ps_claims.specs.Goals.{plus, at_node, at_condition, row_times, rows_times};
-ghost use Rattle.ps_claims.specs.Goals.{claimed_of, size_of};
+ghost use Rattle.ps_claims.specs.Goals.{plus, at_node, at_condition, terms_times, row_times};
+ghost use Rattle.ps_claims.specs.Goals.{rows_times, claimed_of, size_of};
 ghost use Rattle.ps_claims.specs.Certificates.{dual_of, combination_by, combination_on};
 ghost use Rattle.ps_claims.specs.Certificates.{HasQuery, IsMultiplier, IsSmallDual};
-ghost use Rattle.ps_claims.specs.Rows.{AreOverNodes, IsNode, IsRow};
+ghost use Rattle.ps_claims.specs.Rows.{AreOverNodes, IsNode, IsSmall, IsSmallTerm, IsSmallRow};
 
 use crate::claim_kind::ClaimKind;
 use crate::weighted_sum::Combination;
 use ps_answer::Dual;
 use ps_io::{List, NoMemory};
 use ps_pb::Lit;
-use ps_problem::{Bound, Problem};
+use ps_problem::{Problem, Row};
 use std::alloc::Global;
 
 /// The combination whose value in a world is the claim's and the sum of the bounds' rows there,
-/// each times its multiplier. Its terms are those of the claim, and then of each bound: that of
-/// formula and condition together, and that of the condition.
+/// each times its multiplier. Its terms are those of the claim, and then of each row in order.
 pub fn combination(
     alloc: Global,
     problem: &Problem,
@@ -37,25 +36,25 @@ pub fn combination(
     ensures exact { IfOk result (λ c. c ≡ combination_on problem.now kind given both dual.now) }
     ensures small { IfOk result (λ c. size_of c ≤ most_combination) }
 {
-    let bounds = problem.bound_list();
-    combination_of(alloc, bounds, kind, given, both, dual)
+    let rows = problem.rows();
+    combination_of(alloc, rows, kind, given, both, dual)
 }
 
-/// The combination of the claim and the rows of these bounds, of some problem.
+/// The combination of the claim and these rows, of some problem.
 pub fn combination_of(
     alloc: Global,
-    bounds: &[Bound],
+    rows: &[Row],
     kind: ClaimKind,
     given: Option<u32>,
     both: u32,
     dual: &Dual,
 ) -> Result<Combination, NoMemory>
-    requires bounds { AreOverNodes bounds.now }
+    requires rows { AreOverNodes rows.now }
     requires given { IfSome given IsNode }
     requires both { HasQuery kind → IsNode both }
-    requires rows { length dual.now.rows ≡ length bounds.now }
+    requires lengths { length dual.now.rows ≡ length rows.now }
     requires small { IsSmallDual dual.now }
-    ensures exact { IfOk result (λ c. c ≡ combination_by bounds.now kind given both dual.now) }
+    ensures exact { IfOk result (λ c. c ≡ combination_by rows.now kind given both dual.now) }
     ensures small { IfOk result (λ c. size_of c ≤ most_combination) }
 {
     let mut sum = Combination {
@@ -63,7 +62,7 @@ pub fn combination_of(
         base: 0,
     };
     add_claim(&mut sum, kind, given, both, dual)?;
-    add_rows(&mut sum, dual.rows.as_slice(), bounds)?;
+    add_rows(&mut sum, dual.rows.as_slice(), rows)?;
     Ok(sum)
 }
 
@@ -75,6 +74,14 @@ fn add_term(sum: &mut Combination, weight: &i128, node: u32) -> Result<(), NoMem
         .push((Lit::of_place(node as usize, true), *weight))
 }
 
+// A number that counts in every world.
+fn add_base(sum: &mut Combination, weight: &i128)
+    requires { unsigned_abs sum.old.base + unsigned_abs weight.now ≤ 2 ^ 126 }
+    ensures { sum.new ≡ plus sum.old (at_condition weight.now None) }
+{
+    sum.base += *weight;
+}
+
 // A condition that isn't there is always true.
 fn add_condition(sum: &mut Combination, weight: &i128, given: Option<u32>) -> Result<(), NoMemory>
     requires node { IfSome given IsNode }
@@ -84,43 +91,54 @@ fn add_condition(sum: &mut Combination, weight: &i128, given: Option<u32>) -> Re
     match given {
         Some(node) => add_term(sum, weight, node),
         None => {
-            sum.base += *weight;
+            add_base(sum, weight);
             Ok(())
         }
     }
 }
 
-fn times(multiplier: &i128, number: u32) -> i128
+fn times(multiplier: &i128, number: i64) -> i128
     requires small { IsMultiplier multiplier.now }
-    requires number { number ≤ MOST_DENOMINATOR }
-    ensures value { result ≡ multiplier.now *ℤ pos number }
-    ensures size { unsigned_abs result ≤ PRINTED_LIMIT * MOST_DENOMINATOR }
+    requires number { IsSmall number }
+    ensures value { result ≡ multiplier.now *ℤ number }
+    ensures size { unsigned_abs result ≤ PRINTED_LIMIT * MOST_SIZES }
 {
     *multiplier * i128::from(number)
 }
 
-fn add_row(sum: &mut Combination, multiplier: &i128, bound: &Bound) -> Result<(), NoMemory>
+fn add_terms(sum: &mut Combination, multiplier: &i128, terms: &[(u32, i64)]) -> Result<(), NoMemory>
     requires small { IsMultiplier multiplier.now }
-    requires row { IsRow bound.now }
-    requires fits { unsigned_abs sum.old.base ≤ 2 ^ 125 }
-    ensures { OnOk result (sum.new ≡ plus sum.old (row_times multiplier.now bound.now)) }
+    requires terms { All IsSmallTerm terms.now }
+    ensures { OnOk result (sum.new ≡ plus sum.old (terms_times multiplier.now terms.now)) }
 {
-    let weight = times(multiplier, bound.den);
-    add_term(sum, &weight, bound.both)?;
-    let opposite = -times(multiplier, bound.num);
-    add_condition(sum, &opposite, bound.given)
+    for term in terms {
+        let weight = times(multiplier, term.1);
+        add_term(sum, &weight, term.0)?;
+    }
+    Ok(())
 }
 
-fn add_rows(sum: &mut Combination, rows: &[i128], bounds: &[Bound]) -> Result<(), NoMemory>
-    requires lengths { length rows.now ≡ length bounds.now }
-    requires few { length bounds.now ≤ MOST_BOUNDS }
-    requires small { All IsMultiplier rows.now }
-    requires rows { All IsRow bounds.now }
-    requires fits { unsigned_abs sum.old.base ≤ 2 ^ 91 }
-    ensures { OnOk result (sum.new ≡ plus sum.old (rows_times rows.now bounds.now)) }
+fn add_row(sum: &mut Combination, multiplier: &i128, row: &Row) -> Result<(), NoMemory>
+    requires small { IsMultiplier multiplier.now }
+    requires row { IsSmallRow row.now }
+    requires fits { unsigned_abs sum.old.base ≤ 2 ^ 125 }
+    ensures { OnOk result (sum.new ≡ plus sum.old (row_times multiplier.now row.now)) }
 {
-    for i in 0..bounds.len() {
-        add_row(sum, &rows[i], &bounds[i])?;
+    let weight = times(multiplier, row.base);
+    add_base(sum, &weight);
+    add_terms(sum, multiplier, row.terms.as_slice())
+}
+
+fn add_rows(sum: &mut Combination, multipliers: &[i128], rows: &[Row]) -> Result<(), NoMemory>
+    requires lengths { length multipliers.now ≡ length rows.now }
+    requires few { length rows.now ≤ MOST_BOUNDS }
+    requires small { All IsMultiplier multipliers.now }
+    requires rows { All IsSmallRow rows.now }
+    requires fits { unsigned_abs sum.old.base ≤ 2 ^ 91 }
+    ensures { OnOk result (sum.new ≡ plus sum.old (rows_times multipliers.now rows.now)) }
+{
+    for i in 0..rows.len() {
+        add_row(sum, &multipliers[i], &rows[i])?;
     }
     Ok(())
 }

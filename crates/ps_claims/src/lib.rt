@@ -19,8 +19,8 @@ pub use claim::Claim;
 pub use claim_kind::ClaimKind;
 pub use claim_laws::{
     combinations_are_sums, duals_are_faultless_or_not, duals_bound_probabilities,
-    heads_are_quotients, refuted_goals_bound_combinations, valid_answers_are_right,
-    valid_claims_have_no_fault,
+    heads_are_quotients, problems_have_rows, refuted_goals_bound_combinations,
+    valid_answers_are_right, valid_claims_have_no_fault,
 };
 pub use combining::{combination, combination_of};
 pub use entailment_laws::{reached_bounds_are_tight, reached_values_are_quotients};

@@ -7,7 +7,7 @@ use std::test::*;
 const ACCEPTED: &str = "accepted: claims 1, open 0\n";
 
 pub const USAGE: &str =
-    "usage: psat solve|explain|check|make N [--pivots N|enough] [--conflicts N] [--bytes N]\n";
+    "usage: psat solve|explain|check|upgrade|make N [--pivots N|enough] [--conflicts N] [--bytes N]\n";
 
 pub const HALF: &str =
     "psat 1; P(a) = 1/2; end;\nreport 1\nconsistent\nmodel 2 2\nw 1 1\nw 1 0\nt 0\nend\n";
@@ -56,14 +56,27 @@ const JUDGED: [(&str, &str); 9] = [
 ];
 
 // Inputs with no problem at the front, and their lines.
-const UNREADABLE: [(&str, &str); 14] = [
+const UNREADABLE: [(&str, &str); 18] = [
     ("", "end missing at 1:1"),
     ("psat 1; end", "end missing at 1:12"),
     (
         "psat 1;\nP(a) = 7/10;\nP(a -> b) = 9/10;\nquery P(b);\n",
         "end missing at 5:1",
     ),
-    ("psat 2; end;", "version unknown at 1:6"),
+    ("psat 3; end;", "version unknown at 1:6"),
+    (
+        "psat 2; + P(a) = 1; end;",
+        "expected sentence, query or end at 1:9",
+    ),
+    ("psat 2; P(a) - end;", "expected number or P at 1:16"),
+    (
+        "psat 2; 1000001 P(a) = 1; end;",
+        "number out of range at 1:9",
+    ),
+    (
+        "psat 2; P(a)+P(a)+P(a)+P(a)+P(a)+P(a)+P(a)+P(a)+P(a)+P(a)+P(a)+P(a)+P(a)+P(a)+P(a)+P(a)+",
+        "too many terms at 1:88",
+    ),
     ("psat 1;\nP(a) = 3/2;\nend;", "number out of range at 2:8"),
     (
         "psat 1;\nP(a) = 0.1234567;\nend;",

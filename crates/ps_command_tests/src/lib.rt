@@ -8,6 +8,10 @@ mod explaining;
 #[cfg(test)]
 mod faults;
 #[cfg(test)]
+mod linear;
+#[cfg(test)]
 mod making;
 #[cfg(test)]
 mod solving;
+#[cfg(test)]
+mod upgrading;

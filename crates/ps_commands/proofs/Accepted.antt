@@ -5,8 +5,8 @@ use Rattle.std.specs.List.{AllZip}
 use Rattle.std.proofs.lemmas.List.Elements.{All-nil, All-cons}
 use Rattle.std.proofs.Math.Nat.{min-le_right}
 use Rattle.ps_text.specs.Pieces.{IsBare}
-use Rattle.ps_meaning.specs.Statements.{Item, Stated, Asked}
-use Rattle.ps_text.specs.Canonical.{AreLawful}
+use Rattle.ps_meaning.specs.Statements.{Summand, Plain, Linear, Item, Stated, Asked}
+use Rattle.ps_text.specs.Canonical.{IsReducedWeight, AreWritable, IsLawfulItem, AreLawful}
 use Rattle.ps_text.proofs.Lawful.{front_lawful}
 use Rattle.ps_problem.specs.Problems.{Parts, AreParts}
 use Rattle.ps_problem.specs.Drafts.{HasReducedValues}
@@ -68,10 +68,18 @@ read_as limits bytes o p a (inr not) h =
     h.read_back (inr (nothing_open p a (finished a.verdict (unfinished_of (answer_of a)) done) h.solution.valid))
 
 -- values that are read are reduced
+weights_of : (ts : List Summand) → AreWritable ts → All (λ t. IsReducedWeight t.coefficient) ts
+weights_of [] h = All-nil (λ t. IsReducedWeight t.coefficient)
+weights_of (t ∷ ts) h = All-cons (λ u. IsReducedWeight u.coefficient) t ts h.0.0 (weights_of ts h.1)
+
+reduced_item : (i : Item) → IsLawfulItem i → HasReducedValues i
+reduced_item (Stated (Plain s)) h = (h.2, h.3)
+reduced_item (Stated (Linear s)) h = record { some = h.some; few = h.few; coefficients = weights_of s.terms h.terms; value = h.value; upper = h.upper }
+reduced_item (Asked q) h = tt
+
 reduced_of : (items : List Item) → AreLawful items → All HasReducedValues items
 reduced_of [] h = All-nil HasReducedValues
-reduced_of (Stated s ∷ is) h = All-cons HasReducedValues (Stated s) is (h.0.2, h.0.3) (reduced_of is h.1)
-reduced_of (Asked q ∷ is) h = All-cons HasReducedValues (Asked q) is tt (reduced_of is h.1)
+reduced_of (i ∷ is) h = All-cons HasReducedValues i is (reduced_item i h.0) (reduced_of is h.1)
 
 -- so a problem that bytes spell is in order
 pub spelled_parts : (bytes : List ℕ) (p : Parts) (place : ℕ) → SpellsProblem bytes p place → AreParts p

@@ -1,9 +1,11 @@
 -- A run in which no call failed answers what is due, or there was not enough memory.
-use Rattle.std.proofs.Common.{◌≡◌, ◌≤◌, ◌⊎◌, ℕ, Bool, List, [], length, drop, Option, Some, refl, subst, arith, inl, inr, String}
+use Rattle.std.proofs.Common.{◌≡◌, ◌≤◌, ◌⊎◌, ℕ, Bool, List, [], length, drop, Option, Some, refl, ap, ◌∙◌, subst, arith, inl, inr, String}
 use Rattle.std.specs.declared.alloc.Global.{Global}
 use Rattle.ps_read.specs.Readings.{SpellsProblem, SpellsWhole, Read, Unread}
 use Rattle.ps_read.proofs.OneReading.{one_reading, one_whole_reading}
 use Rattle.ps_problem.specs.Problems.{Parts}
+use Rattle.ps_problem.specs.Written.{items_from}
+use Rattle.ps_canonical.specs.Lines.{upgraded_text}
 use Rattle.ps_runs.specs.declared.limits.Limits.{Limits}
 use Rattle.ps_commands.specs.declared.command.Command.{Command}
 use Rattle.ps_commands.specs.declared.command.Command.TheVariants as commands
@@ -11,7 +13,7 @@ use Rattle.ps_commands.specs.declared.command.TheConstants.{MOST_PROBLEM}
 use Rattle.ps_commands.specs.declared.status.Status.{Status}
 use Rattle.ps_commands.specs.declared.status.Status.TheVariants as status
 use Rattle.ps_commands.specs.Commands.{Spell, words_of}
-use Rattle.ps_commands.specs.Due.{Output, DueReport, DueText, Spelled, NotRead, DueAnswered, Solved, NoProblem, DueExplained, Explains, NoneExplained, DueMade, DueWithin, Within, TooLong, DueFor, Due, ForCommand, ForNone, searched}
+use Rattle.ps_commands.specs.Due.{Output, DueReport, DueText, Spelled, NotRead, DueAnswered, Solved, NoProblem, DueExplained, Explains, NoneExplained, DueUpgraded, Upgraded, NoneUpgraded, DueMade, DueWithin, Within, TooLong, DueFor, Due, ForCommand, ForNone, searched}
 use Rattle.ps_commands.specs.Runs.{Answered, CountsReads, CountsWrites, IsTold, IsGiven, Wrote}
 use Rattle.ps_commands.specs.Answering.{Ends, HasNotFailed, IsFaultless, IsOutOfMemory, HasWritten, IsExplained, IsSolved}
 use Rattle.ps_commands.proofs.CommandLaws.{one_command}
@@ -33,6 +35,7 @@ told (commands.Check limit) left bytes e = e
 told (commands.Solve limits enough) left bytes e = e
 told (commands.Explain limits enough) left bytes e = e
 told (commands.Make n limits) left bytes e = tt
+told commands.Upgrade left bytes e = e
 
 -- what is due for words is due for the command that they spell
 due_for : (words : List (List ℕ)) (c : Command) (bytes : List ℕ) (o : Output) → Spell words c → Due words bytes o → DueFor c bytes o
@@ -68,6 +71,14 @@ explained_whole limits enough bytes p o spells (Explains q e h) =
 explained_whole limits enough bytes p o spells (NoneExplained kind at u is) =
     let same = one_whole_reading bytes (Read p (length bytes)) (Unread kind at) (spells, refl) u in absurd (cc)
 
+upgraded_whole : (bytes : List ℕ) (p : Parts) (o : Output) → SpellsWhole bytes p → DueUpgraded bytes o → o ≡ record { text = upgraded_text (items_from p); status = status.Done }
+upgraded_whole bytes p o spells (Upgraded q a is) =
+    let same = one_whole_reading bytes (Read q (length bytes)) (Read p (length bytes)) (a, refl) (spells, refl) in
+    let problem : q ≡ p = cc in
+    is ∙ ap (λ (x : Parts). record { text = upgraded_text (items_from x); status = status.Done }) problem
+upgraded_whole bytes p o spells (NoneUpgraded kind at u is) =
+    let same = one_whole_reading bytes (Read p (length bytes)) (Unread kind at) (spells, refl) u in absurd (cc)
+
 -- what holds of what is due holds of what was written
 pub written_so : (words : List (String Global)) (c : Command) (old new : Ends) (s : Status) (bytes : List ℕ) (D : Output → Type 0) → Spell (words_of words) c → IsFaultless words old new s
     → old.source.bytes ≡ Some bytes → ((o : Output) → DueFor c bytes o → D o) → HasWritten D s old new ⊎ IsOutOfMemory s old new
@@ -97,6 +108,13 @@ pub problem_explained : (words : List (String Global)) (limits : Limits) (enough
 problem_explained words limits enough old new s bytes p spelled h e few spells =
     written_so words (commands.Explain limits enough) old new s bytes (IsExplained limits enough bytes p) spelled h e
     (λ o due. explained_whole limits enough bytes p o spells (due_within MOST_PROBLEM (DueExplained limits enough) bytes o few due))
+
+pub problem_upgraded : (words : List (String Global)) (old new : Ends) (s : Status) (bytes : List ℕ) (p : Parts) → Spell (words_of words) commands.Upgrade
+    → IsFaultless words old new s → old.source.bytes ≡ Some bytes → length bytes ≤ MOST_PROBLEM → SpellsWhole bytes p
+    → HasWritten (λ o. o ≡ record { text = upgraded_text (items_from p); status = status.Done }) s old new ⊎ IsOutOfMemory s old new
+problem_upgraded words old new s bytes p spelled h e few spells =
+    written_so words commands.Upgrade old new s bytes (λ o. o ≡ record { text = upgraded_text (items_from p); status = status.Done }) spelled h e
+    (λ o due. upgraded_whole bytes p o spells (due_within MOST_PROBLEM DueUpgraded bytes o few due))
 
 -- whatever bytes a run is given that makes a problem
 pub problem_made : (words : List (String Global)) (links : ℕ) (limits : Limits) (old new : Ends) (s : Status) → Spell (words_of words) (commands.Make links limits) → IsFaultless words old new s

@@ -1,7 +1,8 @@
 -- A whole text, a line feed and bytes that begin with no blank and no comment: the text is read at the front, up to those bytes.
 use Rattle.std.proofs.Common.{◌≡◌, ℕ, zero, suc, ◌+◌, false, List, [], ◌∷◌, ◌++◌, length, take, drop, refl, sym, ap, subst, ◌∙◌, arith, append_assoc, append-nil, length-append}
 use Rattle.ps_meaning.specs.Names.{is_digit}
-use Rattle.ps_text.specs.Tokens.{One, Token, Word, Number, Sign, Whole, Quotient, Decimal}
+use Rattle.ps_text.specs.declared.symbol.Symbol.TheVariants.{Minus}
+use Rattle.ps_text.specs.Tokens.{Token, Word, Number, Sign, Whole, Quotient, Decimal}
 use Rattle.ps_text.specs.Pieces.{Piece, Blank, Comment, Spelled, EndsLine, Fits, texts, tokens, Cuts, IsBare}
 use Rattle.ps_text.specs.Fronts.{IsTextFront}
 use Rattle.ps_text.proofs.Spans.{starts, starts_behind}
@@ -25,21 +26,23 @@ stops_more (Word w) (b ∷ bs) rest s = s
 stops_more (Number (Whole ds)) after rest s = (digit_more after rest ∙ s.0, behind_more 47 after rest refl s.1, behind_more 46 after rest refl s.2)
 stops_more (Number (Quotient ds es)) after rest s = digit_more after rest ∙ s
 stops_more (Number (Decimal ds es)) after rest s = digit_more after rest ∙ s
+stops_more (Sign Minus) [] rest s = refl
+stops_more (Sign Minus) (b ∷ bs) rest s = s
 stops_more (Sign x) after rest s = tt
 
 ends_more : (after rest : List ℕ) → EndsLine after → EndsLine (after ++ 10 ∷ rest)
 ends_more [] rest e = refl
 ends_more (b ∷ bs) rest e = e
 
-fits_more : (p : Piece) (after rest : List ℕ) → Fits One p after → Fits One p (after ++ 10 ∷ rest)
+fits_more : (p : Piece) (after rest : List ℕ) → Fits p after → Fits p (after ++ 10 ∷ rest)
 fits_more (Blank b) after rest f = f
 fits_more (Comment c) after rest f = (f.0, ends_more after rest f.1)
-fits_more (Spelled t) after rest f = (f.0, stops_longest One t (after ++ 10 ∷ rest) f.0 (stops_more t after rest (longest_stops One t after f.0 f.1)))
+fits_more (Spelled t) after rest f = (f.0, stops_longest t (after ++ 10 ∷ rest) f.0 (stops_more t after rest (longest_stops t after f.0 f.1)))
 
-cuts_more : (ps : List Piece) (after rest : List ℕ) → Cuts One ps after → Cuts One ps (after ++ 10 ∷ rest)
+cuts_more : (ps : List Piece) (after rest : List ℕ) → Cuts ps after → Cuts ps (after ++ 10 ∷ rest)
 cuts_more [] after rest c = tt
 cuts_more (p ∷ ps) after rest c =
-    (subst (λ (x : List ℕ). Fits One p x) (append_assoc (texts ps) after (10 ∷ rest)) (fits_more p (texts ps ++ after) rest c.0), cuts_more ps after rest c.1)
+    (subst (λ (x : List ℕ). Fits p x) (append_assoc (texts ps) after (10 ∷ rest)) (fits_more p (texts ps ++ after) rest c.0), cuts_more ps after rest c.1)
 
 -- ---- the text at the front
 none_left : (xs ys : List ℕ) → length (xs ++ ys) ≡ length xs → ys ≡ []
@@ -67,7 +70,7 @@ module _ (bytes : List ℕ) (whole : IsTextFront bytes (length bytes)) (rest : L
     rest = rest;
     written = whole.written;
     is = sym (append_assoc bytes (10 ∷ []) rest) ∙ ap (λ (x : List ℕ). x ++ rest) (sym with_feed);
-    cuts = cuts-append whole.pieces feed rest (cuts_more whole.pieces [] rest (subst (λ (x : List ℕ). Cuts One whole.pieces x) nothing_left whole.cuts)) (refl, tt);
+    cuts = cuts-append whole.pieces feed rest (cuts_more whole.pieces [] rest (subst (λ (x : List ℕ). Cuts whole.pieces x) nothing_left whole.cuts)) (refl, tt);
     derived = tokens-append whole.pieces feed ∙ append-nil (tokens whole.pieces) ∙ whole.derived;
     within = whole.within;
     bare = bare;

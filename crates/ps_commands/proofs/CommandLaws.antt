@@ -8,7 +8,7 @@ use Rattle.std.proofs.lemmas.List.Elements.{All-nil, All-cons}
 use Rattle.ps_runs.specs.declared.limits.Limits.{Limits}
 use Rattle.ps_generation.specs.Phases.{AreLimits}
 use Rattle.ps_commands.specs.declared.command.Command.{Command}
-use Rattle.ps_commands.specs.declared.command.Command.TheVariants.{Check, Explain, Make, Solve}
+use Rattle.ps_commands.specs.declared.command.Command.TheVariants.{Check, Explain, Make, Solve, Upgrade}
 use Rattle.ps_commands.specs.declared.command.Limit.{Limit}
 use Rattle.ps_commands.specs.declared.command.Limit.TheVariants.{Bytes, Pivots, Conflicts}
 use Rattle.ps_commands.specs.declared.command.LimitValue.{LimitValue}
@@ -95,6 +95,7 @@ name_of (Check n) = codes "check"
 name_of (Solve limits enough) = codes "solve"
 name_of (Explain limits enough) = codes "explain"
 name_of (Make n limits) = codes "make"
+name_of Upgrade = codes "upgrade"
 
 -- the words begin with it
 named : (words : List (List ℕ)) (c : Command) → Spell words c → (rest : List (List ℕ)) × (words ≡ name_of c ∷ rest)
@@ -102,6 +103,7 @@ named words (Check n) h = (setting_words h.0.settings, h.0.words_are)
 named words (Solve limits enough) h = (setting_words h.set.spelled.settings, h.set.spelled.words_are)
 named words (Explain limits enough) h = (setting_words h.set.spelled.settings, h.set.spelled.words_are)
 named words (Make n limits) h = (decimal n ∷ setting_words h.set.spelled.settings, h.set.spelled.words_are)
+named words Upgrade h = ([], h)
 
 pub name-is : (name : List ℕ) (words : List (List ℕ)) (c : Command) → Spell (name ∷ words) c → name ≡ name_of c
 name-is name words c h = let n = named (name ∷ words) c h in head name (name_of c) words n.0 n.1
@@ -124,14 +126,16 @@ pub name_none : (name : List ℕ) (words : List (List ℕ)) → ((c : Command) �
 name_none name words not = record { none = λ c h. not c (name-is name words c h) h }
 
 -- words that no command has a name for
-pub unnamed : (name : List ℕ) (words : List (List ℕ)) → ¬ (name ≡ codes "solve") → ¬ (name ≡ codes "explain") → ¬ (name ≡ codes "make") → ¬ (name ≡ codes "check") → SpellNone (name ∷ words)
-unnamed name words p q r t = name_none name words by
+pub unnamed : (name : List ℕ) (words : List (List ℕ)) → ¬ (name ≡ codes "solve") → ¬ (name ≡ codes "explain") → ¬ (name ≡ codes "make") → ¬ (name ≡ codes "check") → ¬ (name ≡ codes "upgrade")
+    → SpellNone (name ∷ words)
+unnamed name words p q r t u = name_none name words by
   where
     by : (c : Command) → name ≡ name_of c → ¬ Spell (name ∷ words) c
     by (Check n) e h = t e
     by (Solve limits enough) e h = p e
     by (Explain limits enough) e h = q e
     by (Make n limits) e h = r e
+    by Upgrade e h = u e
 
 -- ---- words spell one command
 one_limits : (l m : Limits) → l.pivots ≡ m.pivots → l.conflicts ≡ m.conflicts → l ≡ m
@@ -192,6 +196,7 @@ one_command words (Solve l e) (Solve m f) a b =
 one_command words (Explain l e) (Explain m f) a b =
     let same = one_runs (codes "explain") l m e f words a b in ap (λ (x : Limits). Explain x e) same.0 ∙ ap (λ (x : Bool). Explain m x) same.1
 one_command words (Make n l) (Make m k) a b = one_made words n m l k a b
+one_command words Upgrade Upgrade a b = refl
 one_command words (Check m) (Solve l e) a b = absurd (apart words (Check m) (Solve l e) (λ x. omega (arith, x)) a b)
 one_command words (Check m) (Explain l e) a b = absurd (apart words (Check m) (Explain l e) (λ x. omega (arith, x)) a b)
 one_command words (Check m) (Make n l) a b = absurd (apart words (Check m) (Make n l) (λ x. omega (arith, x)) a b)
@@ -204,6 +209,14 @@ one_command words (Explain l e) (Make n k) a b = absurd (apart words (Explain l 
 one_command words (Make n l) (Check m) a b = absurd (apart words (Make n l) (Check m) (λ x. omega (arith, x)) a b)
 one_command words (Make n l) (Solve k f) a b = absurd (apart words (Make n l) (Solve k f) (λ x. omega (arith, x)) a b)
 one_command words (Make n l) (Explain k f) a b = absurd (apart words (Make n l) (Explain k f) (λ x. omega (arith, x)) a b)
+one_command words Upgrade (Check m) a b = absurd (apart words Upgrade (Check m) (λ x. omega (arith, x)) a b)
+one_command words Upgrade (Solve l e) a b = absurd (apart words Upgrade (Solve l e) (λ x. omega (arith, x)) a b)
+one_command words Upgrade (Explain l e) a b = absurd (apart words Upgrade (Explain l e) (λ x. omega (arith, x)) a b)
+one_command words Upgrade (Make n l) a b = absurd (apart words Upgrade (Make n l) (λ x. omega (arith, x)) a b)
+one_command words (Check m) Upgrade a b = absurd (apart words (Check m) Upgrade (λ x. omega (arith, x)) a b)
+one_command words (Solve l e) Upgrade a b = absurd (apart words (Solve l e) Upgrade (λ x. omega (arith, x)) a b)
+one_command words (Explain l e) Upgrade a b = absurd (apart words (Explain l e) Upgrade (λ x. omega (arith, x)) a b)
+one_command words (Make n l) Upgrade a b = absurd (apart words (Make n l) Upgrade (λ x. omega (arith, x)) a b)
 
 -- the limits that words spell are within theirs
 set_limits : (front words : List (List ℕ)) (l : Limits) → SetRuns front (Number l.pivots) l.conflicts words → AreLimits l
@@ -223,6 +236,7 @@ pub spelled_limits : (words : List (List ℕ)) (c : Command) → Spell words c �
 spelled_limits words (Check n) h = tt
 spelled_limits words (Solve l e) h = runs_limits (codes "solve") words l e h
 spelled_limits words (Explain l e) h = runs_limits (codes "explain") words l e h
+spelled_limits words Upgrade h = tt
 spelled_limits words (Make n l) h = record { some = h.some; few = h.few; limits_are = set_limits (codes "make" ∷ decimal n ∷ []) words l h.set }
 
 -- ---- settings of runs behind words
@@ -270,6 +284,7 @@ solve_unspelled words not = name_none (codes "solve") words by
     by (Check n) is h = other (codes "solve") (codes "check") (λ x. omega (arith, x)) is
     by (Explain l e) is h = other (codes "solve") (codes "explain") (λ x. omega (arith, x)) is
     by (Make n l) is h = other (codes "solve") (codes "make") (λ x. omega (arith, x)) is
+    by Upgrade is h = other (codes "solve") (codes "upgrade") (λ x. omega (arith, x)) is
 
 pub explain_unspelled : (words : List (List ℕ)) → SetNoRuns words → SpellNone (codes "explain" ∷ words)
 unfolding first_of
@@ -280,6 +295,22 @@ explain_unspelled words not = name_none (codes "explain") words by
     by (Check n) is h = other (codes "explain") (codes "check") (λ x. omega (arith, x)) is
     by (Solve l e) is h = other (codes "explain") (codes "solve") (λ x. omega (arith, x)) is
     by (Make n l) is h = other (codes "explain") (codes "make") (λ x. omega (arith, x)) is
+    by Upgrade is h = other (codes "explain") (codes "upgrade") (λ x. omega (arith, x)) is
+
+-- `upgrade` has no words behind it
+pub upgrade_spelled : (words : List (List ℕ)) → words ≡ [] → Spell (codes "upgrade" ∷ words) Upgrade
+upgrade_spelled words e = ap (λ (ws : List (List ℕ)). codes "upgrade" ∷ ws) e
+
+pub upgrade_unspelled : (words : List (List ℕ)) → 1 ≤ length words → SpellNone (codes "upgrade" ∷ words)
+unfolding first_of
+upgrade_unspelled words some = name_none (codes "upgrade") words by
+  where
+    by : (c : Command) → codes "upgrade" ≡ name_of c → ¬ Spell (codes "upgrade" ∷ words) c
+    by Upgrade is h = let none = ap length (tail (codes "upgrade") (codes "upgrade") words [] h) in omega (arith, some, none)
+    by (Check n) is h = other (codes "upgrade") (codes "check") (λ x. omega (arith, x)) is
+    by (Solve l e) is h = other (codes "upgrade") (codes "solve") (λ x. omega (arith, x)) is
+    by (Explain l e) is h = other (codes "upgrade") (codes "explain") (λ x. omega (arith, x)) is
+    by (Make n l) is h = other (codes "upgrade") (codes "make") (λ x. omega (arith, x)) is
 
 -- ---- the words of strings
 pub words-empty : (xs : List (String Global)) → length xs ≡ 0 → words_of xs ≡ []
@@ -311,6 +342,7 @@ check_unspelled words not = name_none (codes "check") words by
     by (Solve l e) is h = other (codes "check") (codes "solve") (λ x. omega (arith, x)) is
     by (Explain l e) is h = other (codes "check") (codes "explain") (λ x. omega (arith, x)) is
     by (Make n l) is h = other (codes "check") (codes "make") (λ x. omega (arith, x)) is
+    by Upgrade is h = other (codes "check") (codes "upgrade") (λ x. omega (arith, x)) is
 
 -- what two words behind the command's name set
 pub two_spelled : (word digits : List ℕ) (r : Option ℕ) → FindsNumber word digits Bytes r

@@ -3,6 +3,8 @@ use Rattle.std.proofs.Common.{◌≡◌, inl, ℕ, ◌+◌, ◌-◌, ◌<◌, ar
 use Rattle.std.specs.declared.alloc.Global.{Global}
 use Rattle.std.proofs.lemmas.Option.{same_Some}
 use Rattle.ps_problem.specs.Problems.{Parts}
+use Rattle.ps_problem.specs.Written.{items_from}
+use Rattle.ps_canonical.specs.Lines.{upgraded_text}
 use Rattle.ps_answer.specs.declared.answer.Answer.{Answer}
 use Rattle.ps_answer.specs.declared.error.ReportError.TheVariants as errors
 use Rattle.ps_read.specs.declared.read_error.ReadError.{ReadError}
@@ -30,10 +32,10 @@ use Rattle.ps_commands.specs.declared.command.Command.TheVariants as commands
 use Rattle.ps_commands.specs.declared.status.Status.{Status}
 use Rattle.ps_commands.specs.declared.status.Status.TheVariants as status
 use Rattle.ps_commands.specs.Commands.{Spell, SpellNone, limit_of, words_of}
-use Rattle.ps_commands.specs.Statuses.{EndsCheck, EndsMake, EndsSolve, HasText, IsAnswerOf}
+use Rattle.ps_commands.specs.Statuses.{EndsCheck, EndsMake, EndsSolve, EndsUpgrade, HasText, IsAnswerOf}
 use Rattle.ps_commands.specs.RunLimits.{limits_for}
 use Rattle.ps_commands.specs.Due as due
-use Rattle.ps_commands.specs.Due.{Output, too_long, usage, unreadable, DueAnswer, DueAnswered, NoProblem, Solved, IsSolvedBy, DueExplained, Explains, NoneExplained, explanation_of, status_explained, DueMade, Within, TooLong, DueFor, Due, ForCommand, ForNone, report_of, status_after}
+use Rattle.ps_commands.specs.Due.{Output, too_long, usage, unreadable, DueAnswer, DueAnswered, NoProblem, Solved, IsSolvedBy, DueExplained, Explains, NoneExplained, explanation_of, status_explained, DueMade, DueUpgraded, NoneUpgraded, Within, TooLong, DueFor, Due, ForCommand, ForNone, report_of, status_after}
 use Rattle.ps_commands.proofs.CommandLaws.{one_command}
 use Rattle.ps_commands.specs.Runs.{CountsReads, IsTold, WasRead, Took, HasAnswered, HasTaken, HasRead, Wrote}
 use Rattle.ps_commands.specs.Replies.{AreWithin, DueBytes, IsDueFor, IsDue}
@@ -63,12 +65,14 @@ told-is (commands.Check n) limit left bytes e h = h
 told-is (commands.Solve l f) limit left bytes e h = h
 told-is (commands.Explain l f) limit left bytes e h = h
 told-is (commands.Make n l) limit left bytes e h = absurd (cc)
+told-is commands.Upgrade limit left bytes e h = h
 
 within_due : (c : Command) (limit : ℕ) (bytes : List ℕ) (o : Output) → limit_of c ≡ Some limit → length bytes ≤ limit → DueBytes c bytes o → DueFor c bytes o
 within_due (commands.Check n) limit bytes o e few d = let same : n ≡ limit = same_Some n limit e in Within (subst (λ (m : ℕ). length bytes ≤ m) (sym same) few) d
 within_due (commands.Solve l f) limit bytes o e few d = let same : MOST_PROBLEM ≡ limit = same_Some MOST_PROBLEM limit e in Within (subst (λ (m : ℕ). length bytes ≤ m) (sym same) few) d
 within_due (commands.Explain l f) limit bytes o e few d = let same : MOST_PROBLEM ≡ limit = same_Some MOST_PROBLEM limit e in Within (subst (λ (m : ℕ). length bytes ≤ m) (sym same) few) d
 within_due (commands.Make n l) limit bytes o e few d = d
+within_due commands.Upgrade limit bytes o e few d = let same : MOST_PROBLEM ≡ limit = same_Some MOST_PROBLEM limit e in Within (subst (λ (m : ℕ). length bytes ≤ m) (sym same) few) d
 
 more_due : (c : Command) (limit : ℕ) (bytes : List ℕ) (o : Output) → limit_of c ≡ Some limit → limit < length bytes → o ≡ too_long limit → DueFor c bytes o
 more_due (commands.Check n) limit bytes o e more is =
@@ -80,12 +84,16 @@ more_due (commands.Explain l f) limit bytes o e more is =
     let same : MOST_PROBLEM ≡ limit = same_Some MOST_PROBLEM limit e in
     TooLong (subst (λ (m : ℕ). m < length bytes) (sym same) more) (subst (λ (m : ℕ). o ≡ too_long m) (sym same) is)
 more_due (commands.Make n l) limit bytes o e more is = absurd (cc)
+more_due commands.Upgrade limit bytes o e more is =
+    let same : MOST_PROBLEM ≡ limit = same_Some MOST_PROBLEM limit e in
+    TooLong (subst (λ (m : ℕ). m < length bytes) (sym same) more) (subst (λ (m : ℕ). o ≡ too_long m) (sym same) is)
 
 pub within_limit : (c : Command) (limit n : ℕ) → limit_of c ≡ Some limit → n ≤ limit → AreWithin c n
 within_limit (commands.Check m) limit n e le = let same : m ≡ limit = same_Some m limit e in omega (arith, le, same)
 within_limit (commands.Solve l f) limit n e le = let same : MOST_PROBLEM ≡ limit = same_Some MOST_PROBLEM limit e in omega (arith, le, same)
 within_limit (commands.Explain l f) limit n e le = let same : MOST_PROBLEM ≡ limit = same_Some MOST_PROBLEM limit e in omega (arith, le, same)
 within_limit (commands.Make k l) limit n e le = tt
+within_limit commands.Upgrade limit n e le = let same : MOST_PROBLEM ≡ limit = same_Some MOST_PROBLEM limit e in omega (arith, le, same)
 
 pub input_due : (c : Command) (limit : ℕ) (old new : Option (List ℕ)) (taken given : List ℕ) (o : Output) → limit_of c ≡ Some limit → ReadAll limit old new taken → given ≡ taken
     → DueBytes c given o → IsDueFor c old o
@@ -147,11 +155,18 @@ make_goes status.WriteFault g = g
 make_goes status.NoMemory g = g
 make_goes s g = tt
 
+upgrade_goes : (s : Status) → EndsUpgrade s → HasText s
+upgrade_goes status.ReadFault g = g
+upgrade_goes status.WriteFault g = g
+upgrade_goes status.NoMemory g = g
+upgrade_goes s g = tt
+
 pub answer_goes : (c : Command) (s : Status) → IsAnswerOf c s → HasText s
 answer_goes (commands.Check n) s g = check_goes s g
 answer_goes (commands.Solve l e) s g = solve_goes s g
 answer_goes (commands.Explain l e) s g = solve_goes s g
 answer_goes (commands.Make n l) s g = make_goes s g
+answer_goes commands.Upgrade s g = upgrade_goes s g
 
 -- at an answer the source was read
 pub took_by : (limit : ℕ) (s : Status) (old new : Option (List ℕ)) → HasText s → WasRead limit old new → Took limit s old new
@@ -185,6 +200,7 @@ read_cut words s old new g h = record { read = λ command spelled. by command (h
     by (commands.Solve limits enough) taken = was_read MOST_PROBLEM s old new g taken
     by (commands.Explain limits enough) taken = was_read MOST_PROBLEM s old new g taken
     by (commands.Make n limits) taken = tt
+    by commands.Upgrade taken = was_read MOST_PROBLEM s old new g taken
 
 pub command_due : (words : List (List ℕ)) (command : Command) (left : Option (List ℕ)) (o : Output) → Spell words command → IsDueFor command left o → IsDue words left o
 command_due words command left o spelled h = record { due = λ bytes given. ForCommand command spelled (h.due bytes (given.told command spelled)) }
@@ -242,6 +258,14 @@ explained_due limits run enough bytes p e same spells right =
 pub unexplained_due : (limits : Limits) (enough : Bool) (bytes : List ℕ) (e : ReadError) (kind : ReadKind) (l k : ℕ) (o : Output) → e ≡ unread.At kind l k → Tells (IsUnreadWhole bytes) e
     → o ≡ unreadable kind (record { line = l; column = k }) → DueExplained limits enough bytes o
 unexplained_due limits enough bytes e kind l k o is told shown = let at = rw is at told in NoneExplained kind (record { line = l; column = k }) at shown
+
+-- ---- due for the bytes of a problem that is to be upgraded
+pub upgraded_due : (bytes : List ℕ) (p : Parts) (text : List ℕ) → SpellsWhole bytes p → text ≡ upgraded_text (items_from p) → DueUpgraded bytes (record { text = text; status = status.Done })
+upgraded_due bytes p text spells is = due.Upgraded p spells (ap (λ (bs : List ℕ). record { text = bs; status = status.Done }) is)
+
+pub none_upgraded_due : (bytes : List ℕ) (e : ReadError) (kind : ReadKind) (l k : ℕ) (o : Output) → e ≡ unread.At kind l k → Tells (IsUnreadWhole bytes) e
+    → o ≡ unreadable kind (record { line = l; column = k }) → DueUpgraded bytes o
+none_upgraded_due bytes e kind l k o is told shown = let at = rw is at told in NoneUpgraded kind (record { line = l; column = k }) at shown
 
 -- ---- due for a command that reads nothing
 pub unread_due : (n : ℕ) (limits : Limits) (left : Option (List ℕ)) (o : Output) → DueMade n limits o → IsDueFor (commands.Make n limits) left o

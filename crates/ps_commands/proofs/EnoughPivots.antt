@@ -4,6 +4,7 @@ use Rattle.std.specs.Option.{unwrap_or}
 use Rattle.std.proofs.lemmas.List.{length-map}
 use Rattle.std.proofs.Math.Nat.{min-eq_left, min-eq_right, min-le_right}
 use Rattle.ps_problem.specs.Problems.{Parts, bound_of, bounds_in, bounds_of}
+use Rattle.ps_problem.specs.Rows.{row_at, row_of, rows_in}
 use Rattle.ps_answer.specs.declared.limits.TheConstants.{MOST_PIVOTS}
 use Rattle.ps_runs.specs.declared.limits.Limits.{Limits}
 use Rattle.ps_generation.specs.Phases.{AreLimits}
@@ -11,7 +12,8 @@ use Rattle.ps_simplex.specs.Count.{choose}
 use Rattle.ps_simplex.proofs.Ways.{ways_rise, one_of}
 use Rattle.ps_answer.specs.declared.answer.Answer.{Answer}
 use Rattle.ps_answer.specs.declared.answer.Verdict.TheVariants.{Open}
-use Rattle.ps_runs.specs.Subjects.{sentences_of}
+use Rattle.ps_runs.specs.Rows.{rows_of}
+use Rattle.ps_runs.specs.Subjects.{sentences_of, setting_of}
 use Rattle.ps_runs.specs.Kept.{kept_of, flags_of, kept_parts}
 use Rattle.ps_runs.proofs.Kept.{length-kept, bounds-kept}
 use Rattle.ps_runs.specs.Enough.{IsEnough, HasNoPivotsCause}
@@ -43,7 +45,7 @@ more_rows few many worlds h =
 
 -- so more worlds than a number of 64 bits are too many
 pub many_worlds : (p : Parts) → (2 ^ length p.names < 2 ^ 64 → ⊥) → enough_for p ≤ MOST_PIVOTS → ⊥
-many_worlds p many few = let ways = many_ways (suc (length (bounds_of p))) (2 ^ length p.names) in many (omega (arith, ways, few))
+many_worlds p many few = let ways = many_ways (rows_of (setting_of (sentences_of p))) (2 ^ length p.names) in many (omega (arith, ways, few))
 
 -- that many, or the most where it is less
 least : (r : Option ℕ) (n most : ℕ) → SomeIff r (n ≤ most) n → unwrap_or r most ≡ min n most
@@ -75,11 +77,21 @@ few_bounds kept p =
     let d = length-map (bounds_in p.sentences) (bound_of p.nodes) in
     omega (arith, a, b, c, d)
 
+-- a table has a row for each bound, and one more
+rows_count : (p : Parts) → rows_of (setting_of (sentences_of p)) ≡ suc (length (bounds_of p))
+rows_count p =
+    let a = length-map (rows_in p.sentences) (row_of p.nodes) in
+    let b = length-map (bounds_in p.sentences) row_at in
+    let c = length-map (bounds_in p.sentences) (bound_of p.nodes) in
+    ap suc (a ∙ b ∙ sym c)
+
 -- so what is enough for the whole problem is enough for them
 kept_enough : (kept : List Bool) (p : Parts) → enough_for (kept_parts kept p) ≤ enough_for p
 kept_enough kept p =
     let rows = few_bounds kept p in
-    let ways = more_rows (suc (length (bounds_of (kept_parts kept p)))) (suc (length (bounds_of p))) (2 ^ length p.names) (omega (arith, rows)) in
+    let few = rows_count (kept_parts kept p) in
+    let all = rows_count p in
+    let ways = more_rows (rows_of (setting_of (sentences_of (kept_parts kept p)))) (rows_of (setting_of (sentences_of p))) (2 ^ length p.names) (omega (arith, rows, few, all)) in
     omega (arith, ways)
 
 -- and an open run over them isn't open for pivots

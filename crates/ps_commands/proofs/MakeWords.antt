@@ -4,7 +4,7 @@ use Rattle.std.specs.Fmt.{decimal}
 use Rattle.ps_runs.specs.declared.limits.Limits.{Limits}
 use Rattle.ps_make.specs.declared.made.TheConstants.{MOST_LINKS}
 use Rattle.ps_commands.specs.declared.command.Command.{Command}
-use Rattle.ps_commands.specs.declared.command.Command.TheVariants.{Check, Explain, Make, Solve}
+use Rattle.ps_commands.specs.declared.command.Command.TheVariants.{Check, Explain, Make, Solve, Upgrade}
 use Rattle.ps_commands.specs.declared.command.LimitValue.{LimitValue}
 use Rattle.ps_commands.specs.declared.command.LimitValue.TheVariants.{Number, Enough}
 use Rattle.ps_commands.specs.declared.command.RunSettings.{RunSettings}
@@ -22,6 +22,7 @@ make_none words not = name_none (codes "make") words by
     by (Check n) is h = other (codes "make") (codes "check") (λ x. omega (arith, x)) is
     by (Solve l e) is h = other (codes "make") (codes "solve") (λ x. omega (arith, x)) is
     by (Explain l e) is h = other (codes "make") (codes "explain") (λ x. omega (arith, x)) is
+    by Upgrade is h = other (codes "make") (codes "upgrade") (λ x. omega (arith, x)) is
 
 -- what the words behind the number set
 make_behind : (word : List ℕ) (words : List (List ℕ)) (n : ℕ) (l : Limits) → SpellMake n l (codes "make" ∷ word ∷ words) → (word ≡ decimal n) × SetRuns [] (Number l.pivots) l.conflicts words

@@ -1,8 +1,10 @@
 -- For words and bytes at most one output is due.
-use Rattle.std.proofs.Common.{◌≡◌, ◌≤◌, ℕ, Bool, List, length, drop, sym, ap, subst, ◌∙◌, arith}
+use Rattle.std.proofs.Common.{◌≡◌, ◌≤◌, ℕ, Bool, List, length, drop, refl, sym, ap, subst, ◌∙◌, arith}
 use Rattle.ps_read.specs.Readings.{SpellsWhole, Read, Unread}
 use Rattle.ps_read.proofs.OneReading.{one_reading, one_whole_reading}
 use Rattle.ps_problem.specs.Problems.{Parts}
+use Rattle.ps_problem.specs.Written.{items_from}
+use Rattle.ps_canonical.specs.Lines.{upgraded_text}
 use Rattle.ps_answer.specs.declared.answer.Answer.{Answer}
 use Rattle.ps_answer.proofs.Single.{no_fault, one_fault, one_answer, report_is_text}
 use Rattle.ps_claims.proofs.Claims.{valid_accepted}
@@ -12,8 +14,9 @@ use Rattle.ps_runs.specs.declared.limits.Limits.{Limits}
 use Rattle.ps_commands.specs.declared.command.Command.{Command}
 use Rattle.ps_commands.specs.declared.command.Command.TheVariants as commands
 use Rattle.ps_commands.specs.declared.command.TheConstants.{MOST_PROBLEM}
+use Rattle.ps_commands.specs.declared.status.Status.TheVariants.{Done}
 use Rattle.ps_commands.specs.Commands.{Spell}
-use Rattle.ps_commands.specs.Due.{Output, refused, refused_line, unreadable, DueAnswer, Accepted, RefusedFor, DueReport, ReadAs, FaultAt, DueText, Spelled, NotRead, searched, DueAnswered, Solved, NoProblem, DueExplained, Explains, NoneExplained, DueWithin, Within, TooLong, DueFor, Due, ForCommand, ForNone, IsSingle}
+use Rattle.ps_commands.specs.Due.{Output, refused, refused_line, unreadable, DueAnswer, Accepted, RefusedFor, DueReport, ReadAs, FaultAt, DueText, Spelled, NotRead, searched, DueAnswered, Solved, NoProblem, DueExplained, Explains, NoneExplained, DueUpgraded, Upgraded, NoneUpgraded, DueWithin, Within, TooLong, DueFor, Due, ForCommand, ForNone, IsSingle}
 use Rattle.ps_commands.proofs.CommandLaws.{one_command}
 
 one_judged : (p : Parts) (a : Answer) (o o' : Output) → DueAnswer p a o → DueAnswer p a o' → o ≡ o'
@@ -74,12 +77,26 @@ one_unexplained limits enough bytes o o' none (NoneExplained kind at u is) (None
     let l : at ≡ there = cc in
     is ∙ ap (λ x. unreadable x at) k ∙ ap (λ x. unreadable other x) l ∙ sym is'
 
+one_upgraded : (bytes : List ℕ) (o o' : Output) → DueUpgraded bytes o → DueUpgraded bytes o' → o ≡ o'
+one_upgraded bytes o o' (Upgraded p a is) (Upgraded q b is') =
+    let same : Read p (length bytes) ≡ Read q (length bytes) = one_whole_reading bytes (Read p (length bytes)) (Read q (length bytes)) (a, refl) (b, refl) in
+    let problem : p ≡ q = cc in
+    is ∙ ap (λ (x : Parts). record { text = upgraded_text (items_from x); status = Done }) problem ∙ sym is'
+one_upgraded bytes o o' (Upgraded p a is) (NoneUpgraded kind at u is') = let same = one_whole_reading bytes (Read p (length bytes)) (Unread kind at) (a, refl) u in absurd (cc)
+one_upgraded bytes o o' (NoneUpgraded kind at u is) (Upgraded p a is') = let same = one_whole_reading bytes (Read p (length bytes)) (Unread kind at) (a, refl) u in absurd (cc)
+one_upgraded bytes o o' (NoneUpgraded kind at u is) (NoneUpgraded other there v is') =
+    let same : Unread kind at ≡ Unread other there = one_whole_reading bytes (Unread kind at) (Unread other there) u v in
+    let k : kind ≡ other = cc in
+    let l : at ≡ there = cc in
+    is ∙ ap (λ x. unreadable x at) k ∙ ap (λ x. unreadable other x) l ∙ sym is'
+
 pub one_for_command : (c : Command) (bytes : List ℕ) (o o' : Output) → IsSingle c bytes → DueFor c bytes o → DueFor c bytes o' → o ≡ o'
 one_for_command (commands.Check limit) bytes o o' single d e = one_within limit DueText bytes o o' (λ few. one_text bytes o o') d e
 one_for_command (commands.Solve limits enough) bytes o o' single d e = one_within MOST_PROBLEM (DueAnswered limits enough) bytes o o' (λ few. one_unread limits enough bytes o o' (λ p. single p few)) d e
 one_for_command (commands.Explain limits enough) bytes o o' single d e =
     one_within MOST_PROBLEM (DueExplained limits enough) bytes o o' (λ few. one_unexplained limits enough bytes o o' (λ p. single p few)) d e
 one_for_command (commands.Make n limits) bytes o o' single d e = absurd single
+one_for_command commands.Upgrade bytes o o' single d e = one_within MOST_PROBLEM DueUpgraded bytes o o' (λ few. one_upgraded bytes o o') d e
 
 pub one_output : (words : List (List ℕ)) (bytes : List ℕ) (o o' : Output) → ((c : Command) → Spell words c → IsSingle c bytes) → Due words bytes o → Due words bytes o' → o ≡ o'
 one_output words bytes o o' single (ForCommand c spelled d) (ForCommand c' spelled' d') =

@@ -4,13 +4,15 @@ use Rattle.std.specs.declared.alloc.Global.{Global}
 use Rattle.ps_io.specs.Transfer.{Appends}
 use Rattle.ps_read.specs.Readings.{SpellsProblem, SpellsWhole}
 use Rattle.ps_problem.specs.Problems.{Parts}
+use Rattle.ps_problem.specs.Written.{items_from}
+use Rattle.ps_canonical.specs.Lines.{upgraded_text}
 use Rattle.ps_answer.specs.declared.answer.Answer.{Answer}
 use Rattle.ps_explain.specs.declared.explained.Explained.{Explained}
 use Rattle.ps_runs.specs.declared.limits.Limits.{Limits}
-use Rattle.ps_commands.specs.declared.command.Command.TheVariants.{Check, Explain, Make, Solve}
+use Rattle.ps_commands.specs.declared.command.Command.TheVariants.{Check, Explain, Make, Solve, Upgrade}
 use Rattle.ps_commands.specs.declared.command.TheConstants.{MOST_PROBLEM}
 use Rattle.ps_commands.specs.declared.status.Status.{Status}
-use Rattle.ps_commands.specs.declared.status.Status.TheVariants.{NoMemory}
+use Rattle.ps_commands.specs.declared.status.Status.TheVariants.{Done, NoMemory}
 use Rattle.ps_commands.specs.Commands.{Spell, words_of}
 use Rattle.ps_commands.specs.Due.{Output, DueMade, DueReport, IsExplainedBy, IsSolvedBy, searched}
 use Rattle.ps_commands.specs.RunLimits.{limits_for}
@@ -91,6 +93,15 @@ abbrev pub ProblemsAreMade : Type 0
 ProblemsAreMade = (words : List (String Global)) (links : ℕ) (limits : Limits) (old new : Ends) (status : Status)
     → Spell (words_of words) (Make links limits) → IsFaultless words old new status
     → HasWritten (DueMade links limits) status old new ⊎ IsOutOfMemory status old new
+
+-- for `upgrade` it is then the problem's canonical text as one of version 2, which spells the problem
+abbrev pub ProblemsAreUpgraded : Type 0
+ProblemsAreUpgraded = (words : List (String Global)) (old new : Ends) (status : Status)
+    (bytes : List ℕ) (p : Parts) → Spell (words_of words) Upgrade → IsFaultless words old new status
+    → old.source.bytes ≡ Some bytes
+    → length bytes ≤ MOST_PROBLEM → SpellsWhole bytes p
+    → HasWritten (λ o. o ≡ record { text = upgraded_text (items_from p); status = Done }) status old new
+    ⊎ IsOutOfMemory status old new
 
 -- and for `check`, where a problem stands at the front of bytes within the limit, it is what is due for the problem and the bytes
 -- behind it

@@ -7,7 +7,7 @@ use Rattle.ps_log.specs.declared.limits.TheConstants.{MOST_CONFLICTS}
 use Rattle.ps_runs.specs.declared.limits.Limits.{Limits}
 use Rattle.ps_make.specs.declared.made.TheConstants.{MOST_LINKS}
 use Rattle.ps_commands.specs.declared.command.Command.{Command}
-use Rattle.ps_commands.specs.declared.command.Command.TheVariants.{Check, Explain, Make, Solve}
+use Rattle.ps_commands.specs.declared.command.Command.TheVariants.{Check, Explain, Make, Solve, Upgrade}
 use Rattle.ps_commands.specs.declared.command.Limit.{Limit}
 use Rattle.ps_commands.specs.declared.command.Limit.TheVariants.{Bytes, Pivots, Conflicts}
 use Rattle.ps_commands.specs.declared.command.LimitValue.{LimitValue}
@@ -104,6 +104,7 @@ Spell words (Check bytes) = (w : AreWordsOf (codes "check" ∷ []) (Bytes ∷ []
 Spell words (Solve limits enough) = SpellRuns (codes "solve") limits enough words
 Spell words (Explain limits enough) = SpellRuns (codes "explain") limits enough words
 Spell words (Make n limits) = SpellMake n limits words
+Spell words Upgrade = words ≡ codes "upgrade" ∷ []
 
 -- the words spell no command
 pub record SpellNone (words : List (List ℕ)) : Type 0 where
@@ -115,6 +116,7 @@ limit_of (Check bytes) = Some bytes
 limit_of (Solve limits enough) = Some MOST_PROBLEM
 limit_of (Explain limits enough) = Some MOST_PROBLEM
 limit_of (Make n limits) = None
+limit_of Upgrade = Some MOST_PROBLEM
 
 -- the words are of no command that reads
 pub record ReadNothing (words : List (String Global)) : Type 0 where

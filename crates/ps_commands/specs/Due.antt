@@ -5,6 +5,9 @@ use Rattle.ps_text.specs.Positions.{Position}
 use Rattle.ps_text.specs.declared.kind.ReadKind.{ReadKind}
 use Rattle.ps_read.specs.Readings.{SpellsProblem, SpellsWhole, IsUnread, IsUnreadWhole}
 use Rattle.ps_problem.specs.Problems.{Parts}
+use Rattle.ps_problem.specs.Soundness.{IsProblem}
+use Rattle.ps_problem.specs.Written.{items_from}
+use Rattle.ps_canonical.specs.Lines.{upgraded_text}
 use Rattle.ps_answer.specs.declared.answer.Answer.{Answer}
 use Rattle.ps_answer.specs.declared.answer.Verdict.{Verdict}
 use Rattle.ps_answer.specs.declared.answer.Verdict.TheVariants as answer
@@ -29,7 +32,7 @@ use Rattle.ps_make.specs.Chain.{made_problem, made_text}
 use Rattle.ps_commands.specs.declared.status.Status.{Status}
 use Rattle.ps_commands.specs.declared.status.Status.TheVariants.{Done, Inconsistent, Usage, Unreadable, Unfinished, Refused}
 use Rattle.ps_commands.specs.declared.command.Command.{Command}
-use Rattle.ps_commands.specs.declared.command.Command.TheVariants.{Check, Explain, Make, Solve}
+use Rattle.ps_commands.specs.declared.command.Command.TheVariants.{Check, Explain, Make, Solve, Upgrade}
 use Rattle.ps_commands.specs.declared.checked.TheConstants.{MOST_SEARCHED}
 use Rattle.ps_commands.specs.declared.command.TheConstants.{MOST_PROBLEM}
 use Rattle.ps_commands.specs.Commands.{Spell, SpellNone}
@@ -69,7 +72,7 @@ too_long limit = line (codes "unreadable: more than " ++ decimal limit ++ codes 
 
 -- the usage line, for words that spell no command
 abbrev pub usage : Output
-usage = line (codes "usage: psat solve|explain|check|make N [--pivots N|enough] [--conflicts N] [--bytes N]") Usage
+usage = line (codes "usage: psat solve|explain|check|upgrade|make N [--pivots N|enough] [--conflicts N] [--bytes N]") Usage
 
 -- due for a problem and an answer to it: the answer is accepted where it is valid, and it is then right; or else its first claim
 -- that isn't valid is refused, for the first reason against it
@@ -182,6 +185,14 @@ pub record IsMadeBy (n : ℕ) (limits : Limits) (o : Output) (a : Answer) : Type
 abbrev pub DueMade : ℕ → Limits → Output → Type 0
 DueMade n limits o = (a : Answer) × IsMadeBy n limits o a
 
+-- due for the bytes of a problem that is to be upgraded: the problem's canonical text with `psat 2;` as its first line, or
+-- they are no problem, for a kind of refusal at a position
+pub data DueUpgraded (bytes : List ℕ) (o : Output) : Type 0 where
+  Upgraded : (p : Parts) (spells : SpellsWhole bytes p)
+      (is : o ≡ record { text = upgraded_text (items_from p); status = Done }) → DueUpgraded bytes o
+  NoneUpgraded : (kind : ReadKind) (at : Position) (unread : IsUnreadWhole bytes kind at)
+      (is : o ≡ unreadable kind at) → DueUpgraded bytes o
+
 -- due for what the source had left, of which so many bytes are read at most, by what is due for bytes within the limit
 pub data DueWithin (limit : ℕ) (DueOf : List ℕ → Output → Type 0) (bytes : List ℕ) (o : Output) : Type 0 where
   Within : (within : length bytes ≤ limit) (due : DueOf bytes o) → DueWithin limit DueOf bytes o
@@ -193,6 +204,7 @@ DueFor (Check limit) bytes o = DueWithin limit DueText bytes o
 DueFor (Solve limits enough) bytes o = DueWithin MOST_PROBLEM (DueAnswered limits enough) bytes o
 DueFor (Explain limits enough) bytes o = DueWithin MOST_PROBLEM (DueExplained limits enough) bytes o
 DueFor (Make n limits) bytes o = DueMade n limits o
+DueFor Upgrade bytes o = DueWithin MOST_PROBLEM DueUpgraded bytes o
 
 -- due for words and bytes: what is due for the command that the words spell, or else the usage line
 pub data Due (words : List (List ℕ)) (bytes : List ℕ) (o : Output) : Type 0 where
@@ -203,18 +215,23 @@ pub data Due (words : List (List ℕ)) (bytes : List ℕ) (o : Output) : Type 0 
 abbrev pub AreNoProblem : List ℕ → Type 0
 AreNoProblem bytes = (p : Parts) → length bytes ≤ MOST_PROBLEM → ¬ SpellsWhole bytes p
 
--- where one output at most is due: for `check` always; for `solve` and `explain` where the bytes are no problem, since a problem
--- may have several right answers and explanations; for `make` it is never claimed
+-- where one output at most is due: for `check` and `upgrade` always; for `solve` and `explain` where the bytes are no problem,
+-- since a problem may have several right answers and explanations; for `make` it is never claimed
 abbrev pub IsSingle : Command → List ℕ → Type 0
 IsSingle (Check limit) bytes = Unit {0}
 IsSingle (Solve limits enough) bytes = AreNoProblem bytes
 IsSingle (Explain limits enough) bytes = AreNoProblem bytes
 IsSingle (Make n limits) bytes = ⊥
+IsSingle Upgrade bytes = Unit {0}
 
 -- for words and bytes at most one output is due, but for the words of `solve` or `explain` and a problem, and for those of `make`
 abbrev pub OneOutputIsDue : Type 0
 OneOutputIsDue = (words : List (List ℕ)) (bytes : List ℕ) (o p : Output) → ((c : Command) → Spell words c → IsSingle c bytes)
     → Due words bytes o → Due words bytes p → o ≡ p
+
+-- all bytes of a problem's text with `psat 2;` as its first line spell the problem
+abbrev pub UpgradedTextsAreReread : Type 0
+UpgradedTextsAreReread = (p : Parts) → IsProblem p → SpellsWhole (upgraded_text (items_from p)) p
 
 -- where words ask for enough pivots, and these are at most the most, no part of a due answer is open for pivots
 abbrev pub EnoughLeavesNoneOpen : Type 0

@@ -14,17 +14,17 @@ use Rattle.ps_check.specs.declared.checked.Checked.{Checked}
 use Rattle.ps_check.specs.Checks.{IsFoundIn}
 use Rattle.ps_commands.specs.declared.command.Command.{Command}
 use Rattle.ps_make.specs.declared.made.TheConstants.{MOST_LINKS}
-use Rattle.ps_commands.specs.declared.command.Command.TheVariants.{Check, Explain, Make, Solve}
+use Rattle.ps_commands.specs.declared.command.Command.TheVariants.{Check, Explain, Make, Solve, Upgrade}
 use Rattle.ps_commands.specs.declared.made.MadeProblem.{MadeProblem}
 use Rattle.ps_commands.specs.declared.message.Message.{Message}
 use Rattle.ps_commands.specs.declared.reply.Reply.{Reply}
-use Rattle.ps_commands.specs.declared.reply.Reply.TheVariants.{Line, Report, Explanation, Made}
+use Rattle.ps_commands.specs.declared.reply.Reply.TheVariants.{Line, Report, Explanation, Made, Upgraded}
 use Rattle.ps_commands.specs.declared.reply_error.ReplyError.{ReplyError}
 use Rattle.ps_commands.specs.declared.reply_error.ReplyError.TheVariants as errors
 use Rattle.ps_commands.specs.declared.status.Status.{Status}
 use Rattle.ps_commands.specs.declared.status.Status.TheVariants as statuses
 use Rattle.ps_commands.specs.Commands.{limit_of}
-use Rattle.ps_commands.specs.Due.{Output, Due, DueAnswered, DueExplained, DueFor, DueMade, DueText}
+use Rattle.ps_commands.specs.Due.{Output, Due, DueAnswered, DueExplained, DueFor, DueMade, DueText, DueUpgraded}
 use Rattle.ps_commands.specs.Due.{behind_summary, comment_of, explanation_of, report_of}
 use Rattle.ps_commands.specs.Due.{status_after, status_explained, status_made}
 use Rattle.ps_commands.specs.Summaries.{summary}
@@ -66,6 +66,7 @@ reply_status (Line m) = m.status
 reply_status (Report a) = status_after a
 reply_status (Explanation e) = status_explained e
 reply_status (Made m) = status_by_open m.unfinished
+reply_status (Upgraded text) = statuses.Done
 
 -- the text of a reply
 abbrev pub reply_text : Reply → List ℕ
@@ -73,6 +74,7 @@ reply_text (Line m) = string_bytes m.text
 reply_text (Report a) = report_of a
 reply_text (Explanation e) = explanation_of e
 reply_text (Made m) = made_bytes m
+reply_text (Upgraded text) = text.items
 
 -- the output of a reply: its text, and the status after it
 abbrev pub output_of : Reply → Output
@@ -84,6 +86,7 @@ IsShortReply (Line m) = Unit {0}
 IsShortReply (Report a) = AreShortLines a
 IsShortReply (Explanation e) = HasShortLines e
 IsShortReply (Made m) = IfSome m.unfinished AreShortLines
+IsShortReply (Upgraded text) = Unit {0}
 
 -- the status that takes the place of a reply's, by why there is none
 abbrev pub status_without_reply : ReplyError → Status
@@ -117,6 +120,7 @@ AreLimitsOf (Check limit) = Unit {0}
 AreLimitsOf (Solve limits enough) = AreLimits limits
 AreLimitsOf (Explain limits enough) = AreLimits limits
 AreLimitsOf (Make n limits) = AreLimitsOfMake n limits
+AreLimitsOf Upgrade = Unit {0}
 
 -- so many bytes are within the limit of a command
 abbrev pub AreWithin : Command → ℕ → Type 0
@@ -128,6 +132,7 @@ DueBytes (Check limit) bytes o = DueText bytes o
 DueBytes (Solve limits enough) bytes o = DueAnswered limits enough bytes o
 DueBytes (Explain limits enough) bytes o = DueExplained limits enough bytes o
 DueBytes (Make n limits) bytes o = DueMade n limits o
+DueBytes Upgrade bytes o = DueUpgraded bytes o
 
 -- the output is due for the command and whatever the source tells that it had left
 pub record IsDueFor (command : Command) (left : Option (List ℕ)) (o : Output) : Type 0 where

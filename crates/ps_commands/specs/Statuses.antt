@@ -1,7 +1,7 @@
 -- The numbers of statuses, and which of them go with a text.
 use Rattle.std.specs.Prelude.{ℕ, ◌⊎◌}
 use Rattle.ps_commands.specs.declared.command.Command.{Command}
-use Rattle.ps_commands.specs.declared.command.Command.TheVariants.{Check, Explain, Make, Solve}
+use Rattle.ps_commands.specs.declared.command.Command.TheVariants.{Check, Explain, Make, Solve, Upgrade}
 use Rattle.ps_commands.specs.declared.status.Status.{Status}
 use Rattle.ps_commands.specs.declared.status.Status.TheVariants.{Done, Inconsistent, Usage, Unreadable, Unfinished}
 use Rattle.ps_commands.specs.declared.status.Status.TheVariants.{ReadFault, WriteFault, NoMemory, Refused}
@@ -39,12 +39,19 @@ EndsMake Done = Unit {0}
 EndsMake Unfinished = Unit {0}
 EndsMake other = ⊥
 
+-- a status of `upgrade` that goes with a text
+abbrev pub EndsUpgrade : Status → Type 0
+EndsUpgrade Done = Unit {0}
+EndsUpgrade Unreadable = Unit {0}
+EndsUpgrade other = ⊥
+
 -- a status of a command that goes with a text
 abbrev pub IsAnswerOf : Command → Status → Type 0
 IsAnswerOf (Check limit) status = EndsCheck status
 IsAnswerOf (Solve limits enough) status = EndsSolve status
 IsAnswerOf (Explain limits enough) status = EndsSolve status
 IsAnswerOf (Make n limits) status = EndsMake status
+IsAnswerOf Upgrade status = EndsUpgrade status
 
 -- a status that goes with a text
 abbrev pub HasText : Status → Type 0

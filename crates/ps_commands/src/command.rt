@@ -39,6 +39,8 @@ pub enum Command {
     Explain { limits: Limits, enough: bool },
     /// Judges the report behind a problem, and reads at most so many bytes.
     Check { bytes: u64 },
+    /// Writes the canonical text of a problem as one of version 2.
+    Upgrade,
     /// Makes the problem of a chain of `links` implications, answers it within limits of pivots and
     /// conflicts, and reads nothing.
     Make { links: u32, limits: Limits },
@@ -264,6 +266,16 @@ fn parse_explain(settings: &[String]) -> Option<Command>
     })
 }
 
+// `upgrade`, or None where words stand behind it: it has no settings.
+fn parse_upgrade(settings: &[String]) -> Option<Command>
+    ensures { FindsBehind (codes "upgrade") (words_of settings.now) result }
+{
+    match settings {
+        [] => Some(Command::Upgrade),
+        _ => None,
+    }
+}
+
 // How many links a word spells.
 fn parse_links(word: &String) -> Option<u32>
     ensures { FindsLinks (string_bytes word.now) result }
@@ -310,6 +322,7 @@ pub fn parse_words(words: &[String]) -> Option<Command>
             let bytes = parse_check(settings)?;
             Some(Command::Check { bytes })
         }
+        [name, settings @ ..] if is(name, "upgrade") => parse_upgrade(settings),
         _ => None,
     }
 }

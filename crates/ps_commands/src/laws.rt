@@ -10,13 +10,13 @@ ghost use Rattle.ps_make.specs.declared.made.TheConstants.{MOST_LINKS};
 ghost use Rattle.ps_commands.specs.Accepting.{OneAnswerIsDue, ReportsAreAccepted};
 ghost use Rattle.ps_commands.specs.AcceptedRuns.{SolvedRunsAreAccepted};
 ghost use Rattle.ps_commands.specs.Answering.{FaultlessRunsAnswer, ProblemsAreExplained, ProblemsAreMade};
-ghost use Rattle.ps_commands.specs.Answering.{ProblemsAreSolved, ReportsAreJudged};
+ghost use Rattle.ps_commands.specs.Answering.{ProblemsAreSolved, ProblemsAreUpgraded, ReportsAreJudged};
 ghost use Rattle.ps_commands.specs.Commands.{Spell};
 ghost use Rattle.ps_commands.specs.Conflicts.{ManyConflictsLeaveNoExplanationOpen};
 ghost use Rattle.ps_commands.specs.Conflicts.{ManyConflictsLeaveNoneOpen, ManyConflictsLeaveNoneOpenOfMade};
 ghost use Rattle.ps_commands.specs.Due.{EnoughLeavesNoExplanationOpen, EnoughLeavesNoneOpen};
 ghost use Rattle.ps_commands.specs.Due.{ManyPivotsLeaveNoExplanationOpen, ManyPivotsLeaveNoneOpen};
-ghost use Rattle.ps_commands.specs.Due.{OneOutputIsDue};
+ghost use Rattle.ps_commands.specs.Due.{OneOutputIsDue, UpgradedTextsAreReread};
 
 /// For words and bytes at most one output is due, but for the words of `solve`, `explain` and
 /// `make`: to one problem several answers and several explanations may be right. A report that is
@@ -26,6 +26,11 @@ pub fn one_output_is_due()
         → Spell words c → Spell words d → c ≡ d }
     ensures output { OneOutputIsDue }
     ensures answer { OneAnswerIsDue }
+{}
+
+/// What is due for `upgrade` and a problem spells the problem.
+pub fn upgraded_texts_are_reread()
+    ensures { UpgradedTextsAreReread }
 {}
 
 /// Behind the problem's text and a line feed, a report that is due for `solve` is accepted by
@@ -58,13 +63,15 @@ pub fn many_conflicts_leave_none_open()
 /// Where no call of the source or the sink fails, a run answers what is due, or there was not
 /// enough memory: of its clauses no other status is left. For `solve` and bytes within the limit
 /// that are a problem, that is the report of an answer to it, and for `explain` an explanation of
-/// it; for `check` and a problem at the front of such bytes, what is due for it and the bytes behind
-/// it; and for `make` the chain of so many links with the summary of an answer to its problem.
+/// it, for `upgrade` its canonical text as one of version 2; for `check` and a problem at the front of
+/// such bytes, what is due for it and the bytes behind it; and for `make` the chain of so many links
+/// with the summary of an answer to its problem.
 pub fn faultless_runs_answer()
     ensures answered { FaultlessRunsAnswer }
     ensures solved { ProblemsAreSolved }
     ensures explained { ProblemsAreExplained }
     ensures judged { ReportsAreJudged }
+    ensures upgraded { ProblemsAreUpgraded }
     ensures made { ProblemsAreMade }
 {}
 

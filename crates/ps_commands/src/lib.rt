@@ -1,5 +1,6 @@
 //! The commands of a solver and checker for probabilistic logic: it answers a problem with a report,
-//! judges a report on a problem, explains why a problem's sentences can't be met, and makes problems.
+//! judges a report on a problem, explains why a problem's sentences can't be met, writes a problem's
+//! canonical text, and makes problems.
 #![tactic(auto)]
 
 mod answered;
@@ -17,6 +18,7 @@ mod shown;
 mod solved;
 mod status;
 mod summary;
+mod upgraded;
 mod writing;
 
 pub use command::{Command, MOST_PROBLEM, parse_words};

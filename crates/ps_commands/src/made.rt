@@ -52,7 +52,7 @@ fn accept(
     ensures { IfOk result (IsAccepted problem.now answer.now) }
 {
     // Called for its clauses: the problem is within the limits.
-    let _sound = problem.bound_list();
+    let _sound = problem.rows();
     match check(alloc, problem, answer) {
         Ok(accepted) => Ok(accepted),
         Err(CheckError::Refused(_)) => unreachable!(),

@@ -35,7 +35,7 @@ impl Message {
     {
         let text = String::from_str(
             alloc,
-            "usage: psat solve|explain|check|make N [--pivots N|enough] \
+            "usage: psat solve|explain|check|upgrade|make N [--pivots N|enough] \
              [--conflicts N] [--bytes N]",
         )?;
         Message::line(text, Status::Usage)

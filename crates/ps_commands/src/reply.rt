@@ -21,6 +21,8 @@ pub enum Reply {
     Explanation(Explained),
     /// A made problem with its summary.
     Made(MadeProblem),
+    /// The text of a problem.
+    Upgraded(Vec<u8>),
 }
 
 impl Reply {
@@ -33,6 +35,7 @@ impl Reply {
             Reply::Report(answer) => status_of(answer),
             Reply::Explanation(explained) => status_explained(explained),
             Reply::Made(made) => made.status(),
+            Reply::Upgraded(_) => Status::Done,
         }
     }
 }

@@ -15,6 +15,7 @@ use crate::reply::Reply;
 use crate::reply_error::ReplyError;
 use crate::solved::reply_to_solve;
 use crate::status::Status;
+use crate::upgraded::reply_to_upgrade;
 use crate::writing::write_reply;
 use ps_io::{NoMemory, ReadAllError, Sink, Source, read_all};
 use std::alloc::Global;
@@ -34,6 +35,7 @@ fn reply_to_bytes(alloc: Global, command: Command, bytes: &[u8]) -> Result<Reply
         Command::Explain { limits, enough } => reply_to_explain(alloc, bytes, limits, enough),
         Command::Check { .. } => unreachable!(),
         Command::Make { links, limits } => reply_to_make(alloc, links, limits),
+        Command::Upgrade => reply_to_upgrade(alloc, bytes),
     }
 }
 
@@ -77,7 +79,7 @@ fn reply_to_command<I: Source>(
     ensures faults { CountsReads (I.faults source.old) (I.faults source.new) (status_of result) }
 {
     match command {
-        Command::Solve { .. } | Command::Explain { .. } => {
+        Command::Solve { .. } | Command::Explain { .. } | Command::Upgrade => {
             reply_to_input(alloc, command, MOST_PROBLEM, source)
         }
         Command::Check { bytes } => reply_to_check(alloc, bytes, source),

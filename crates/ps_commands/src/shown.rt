@@ -20,6 +20,8 @@ fn what_text(what: What) -> &'static str
         What::Version => "version",
         What::Semicolon => ";",
         What::Item => "P, query or end",
+        What::Item2 => "sentence, query or end",
+        What::Term => "number or P",
         What::Prob => "P",
         What::Paren => "(",
         What::Formula => "formula",
@@ -50,11 +52,13 @@ pub fn kind_text(alloc: Global, kind: ReadKind) -> Result<String, AllocError>
         ReadKind::TooManyDecimals => String::from_str(alloc, "too many decimals"),
         ReadKind::NumberOutOfRange => String::from_str(alloc, "number out of range"),
         ReadKind::TooDeep => String::from_str(alloc, "too deep"),
+        ReadKind::TooManyTerms => String::from_str(alloc, "too many terms"),
         ReadKind::EndMissing => String::from_str(alloc, "end missing"),
         ReadKind::TooManyAtoms => String::from_str(alloc, "too many atoms"),
         ReadKind::TooManyNodes => String::from_str(alloc, "too many nodes"),
         ReadKind::TooManyBounds => String::from_str(alloc, "too many bounds"),
         ReadKind::TooManyQueries => String::from_str(alloc, "too many queries"),
+        ReadKind::LinearTooLarge => String::from_str(alloc, "linear too large"),
         ReadKind::MoreAfterEnd => String::from_str(alloc, "more after end"),
     }
 }

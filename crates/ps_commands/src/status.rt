@@ -5,7 +5,8 @@ ghost use Rattle.std.specs.Prelude.{◌≡◌};
 #[derive(Clone, Copy, Debug, PartialEq, Eq)]
 pub enum Status {
     /// `check`: each claim of the report is valid. `solve`: the sentences are consistent, and
-    /// nothing is open. `explain`: they are consistent. `make`: nothing is open.
+    /// nothing is open. `explain`: they are consistent. `make`: nothing is open. `upgrade`: the text
+    /// was read.
     Done,
     /// `solve`, `explain`: the sentences are inconsistent.
     Inconsistent,

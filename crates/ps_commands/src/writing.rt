@@ -91,5 +91,6 @@ pub fn write_reply<O: Sink>(alloc: Global, sink: &mut O, reply: &Reply) -> Resul
         Reply::Report(answer) => write_answer(alloc, sink, answer),
         Reply::Explanation(explained) => write_explained(alloc, sink, explained),
         Reply::Made(made) => write_made(alloc, sink, made),
+        Reply::Upgraded(text) => write_all(sink, text),
     }
 }

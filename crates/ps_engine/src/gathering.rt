@@ -6,8 +6,8 @@ use crate::limits::{
     MOST_REPAIRS, OFF_FACE, SEED,
 };
 use crate::vertex::Vertex;
-use ps_climb::{Demand, Goal as ClimbGoal, LocalSearch};
-use ps_float_pricing::{Certainty, FloatGoal, Member, Relaxed};
+use ps_climb::{Goal as ClimbGoal, LocalSearch};
+use ps_float_pricing::{FloatGoal, Member, Relaxed};
 use ps_formula::World;
 use ps_io::NoMemory;
 use ps_problem::Problem;
@@ -43,22 +43,12 @@ struct Centre {
     truth: Vec<bool>,
 }
 
-// What a certainty demands of a world.
-fn demand_of(certainty: &Certainty) -> Demand {
-    match certainty.given {
-        _ if !certainty.is_true => Demand::False(certainty.both),
-        Some(given) => Demand::Implies(given, certainty.both),
-        None => Demand::True(certainty.both),
-    }
-}
-
 // In how many rows each node stands.
 fn counts_of(alloc: Global, relaxed: &Relaxed) -> Result<Vec<f64>, NoMemory> {
     let mut counts = vec![in alloc; 0.0; relaxed.nodes()]?;
     for row in relaxed.rows() {
-        count(&mut counts, row.bound.both);
-        if let Some(given) = row.bound.given {
-            count(&mut counts, given);
+        for term in row.terms() {
+            count(&mut counts, term.node);
         }
     }
     Ok(counts)
@@ -127,10 +117,7 @@ impl Gathering {
             return Ok(None);
         };
         let relaxed = about.relaxed;
-        let mut demands = Vec::new(alloc);
-        for certainty in relaxed.certainties() {
-            demands.push(demand_of(certainty))?;
-        }
+        let demands = relaxed.demands(alloc)?;
         let atoms = problem.atoms() as usize;
         let mut gathering = Gathering {
             alloc,

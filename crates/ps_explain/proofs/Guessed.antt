@@ -1,10 +1,12 @@
 -- What guesses find.
-use Rattle.std.proofs.Common.{◌≡◌, ◌+◌, ◌<◌, ◌⊎◌, inl, inr, ℕ, suc, Bool, true, false, None, List, [], ◌∷◌, length, map, get_or, sym, ◌∙◌, subst, arith}
+use Rattle.std.proofs.Common.{◌≡◌, ◌+◌, ◌<◌, ◌⊎◌, inl, inr, ℕ, suc, Bool, true, false, None, List, [], ◌∷◌, length, get_or, sym, ◌∙◌, subst, arith}
 use Rattle.std.proofs.lemmas.List.{length-map}
 use Rattle.std.proofs.lemmas.Slice.Zip.{AllZip-long}
 use Rattle.ps_problem.specs.Problems.{Parts, bounds_in, bound_of}
 use Rattle.ps_answer.specs.declared.answer.Dual.{Dual}
 use Rattle.ps_claims.specs.Duals.{HasSign}
+use Rattle.ps_claims.specs.Rows.{problem_rows}
+use Rattle.ps_claims.proofs.ProblemRows.{rows_many}
 use Rattle.ps_answer.specs.declared.answer.Model.{Model}
 use Rattle.ps_runs.specs.Kept.{kept_parts}
 use Rattle.ps_guess.specs.Trials.{IsFoundDual, IsFoundModel}
@@ -13,7 +15,7 @@ use Rattle.ps_explain.specs.declared.outcome.Outcome.TheVariants as outcome
 use Rattle.ps_explain.specs.declared.outcome.Tried.TheVariants as tried
 use Rattle.ps_explain.specs.Explanations.{without, AreAmong}
 use Rattle.ps_explain.specs.Steps.{IsAmongAt, AreAmongTo, IsConflict, IsConflictAmong, IsOutcome, IsTried}
-use Rattle.ps_explain.specs.Used.{used_from}
+use Rattle.ps_explain.specs.Used.{used_of}
 use Rattle.ps_explain.proofs.Parts.{length_used, others_zero}
 use Rattle.ps_explain.proofs.Needed.{last_of}
 
@@ -38,14 +40,14 @@ among_all (a ∷ cs) (b ∷ bs) e h =
 
 -- ---- what was found
 -- the sentences that a dual that was found uses can't be met together
-pub dual_conflict : (p : Parts) (kept used : List Bool) (d : Dual) → IsFoundDual p None d → used ≡ used_from p.sentences d.rows 0 → AreAmong used kept
+pub dual_conflict : (p : Parts) (kept used : List Bool) (d : Dual) → IsFoundDual p None d → used ≡ used_of p.sentences d.rows → AreAmong used kept
     → IsConflictAmong p kept (record { kept = used; dual = d })
 dual_conflict p kept used d found e among =
     let long : length d.rows ≡ length (bounds_in p.sentences) =
-    AllZip-long (λ b y. HasSign b.side y) (map (bound_of p.nodes) (bounds_in p.sentences)) d.rows found.valid.refuted.signs ∙ length-map (bounds_in p.sentences) (bound_of p.nodes) in
+    AllZip-long (λ r y. HasSign r.side y) (problem_rows p) d.rows found.valid.refuted.signs ∙ rows_many p ∙ length-map (bounds_in p.sentences) (bound_of p.nodes) in
     record {
       conflict = subst (λ ks. IsConflict p (record { kept = ks; dual = d })) (sym e) (record {
-        choice = length_used p.sentences d.rows 0;
+        choice = length_used p.sentences d.rows;
         shown = record { shown = found.valid; others = others_zero p.sentences d.rows long };
         printed = found.printed;
       });

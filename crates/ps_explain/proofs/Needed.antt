@@ -8,8 +8,9 @@ use Rattle.ps_pb.specs.Constraints.{Constraint}
 use Rattle.ps_pb.specs.Steps.{Refutes}
 use Rattle.ps_clause.specs.Forms.{form_of, first_known}
 use Rattle.ps_formula.specs.declared.node.Node.{Node}
-use Rattle.ps_problem.specs.declared.bound.Bound.{Bound}
+use Rattle.ps_problem.specs.declared.row.Row.{Row}
 use Rattle.ps_problem.specs.Problems.{Parts, AreParts, bounds_in, bound_of}
+use Rattle.ps_problem.specs.Rows.{row_of, rows_in}
 use Rattle.ps_answer.specs.declared.answer.Dual.{Dual}
 use Rattle.ps_answer.specs.declared.answer.Model.{Model}
 use Rattle.ps_claims.specs.Answers.{Inconsistent}
@@ -19,10 +20,12 @@ use Rattle.ps_claims.specs.Duals as claimed
 use Rattle.ps_claims.specs.Duals.{HasSign, HaveSigns, AreZeroElsewhere}
 use Rattle.ps_claims.specs.Goals.{combination_of, goal_of}
 use Rattle.ps_claims.specs.Validity.{IsRefuted, ShowsNothing}
+use Rattle.ps_claims.specs.Rows.{problem_rows}
+use Rattle.ps_claims.proofs.ProblemRows.{rows_many}
 use Rattle.ps_claims.proofs.Valid.{valid-right}
 use Rattle.ps_claims.specs.Certificates.{model_of, dual_of}
 use Rattle.ps_runs.specs.Kept.{kept_of, flags_of, kept_parts, kept_dual, IsChoice}
-use Rattle.ps_runs.proofs.Kept.{bounds-kept, goal-kept, length-flags, parts-kept}
+use Rattle.ps_runs.proofs.Kept.{rows-kept, goal-kept, length-flags, parts-kept}
 use Rattle.ps_runs.specs.declared.limits.Limits.{Limits}
 use Rattle.ps_generation.specs.Phases.{limited}
 use Rattle.ps_generation.specs.declared.first.First.TheVariants as first
@@ -30,31 +33,31 @@ use Rattle.ps_generation.specs.Runs.{RunState, IsNew, IsPhaseOneAnswer, IsPrinte
 use Rattle.ps_explain.specs.declared.conflict.Conflict.{Conflict}
 use Rattle.ps_explain.specs.Explanations.{without, AreAmong, CannotBeMet, IsModelWithout, IsShownBy, IsOneShort}
 use Rattle.ps_explain.specs.Steps.{CanBeMet, AreNeeded, IsConflict, IsConflictAmong}
-use Rattle.ps_explain.specs.Used.{used_from}
+use Rattle.ps_explain.specs.Used.{used_of}
 use Rattle.ps_explain.proofs.Parts.{length_used, others_zero, used_among, among_before, among_without, among_at, left_out, put_back, kept_inside, all_among}
 
 -- ---- duals of the kept bounds
-signs_part : (ns : List Node) (flags : List Bool) (bs : List Bound) (ys : List ℤ) → HaveSigns (map (bound_of ns) bs) ys
-    → HaveSigns (map (bound_of ns) (kept_of flags bs)) (kept_of flags ys)
-signs_part ns [] bs ys h = tt
+signs_part : (ns : List Node) (flags : List Bool) (rs : List Row) (ys : List ℤ) → HaveSigns (map (row_of ns) rs) ys
+    → HaveSigns (map (row_of ns) (kept_of flags rs)) (kept_of flags ys)
+signs_part ns [] rs ys h = tt
 signs_part ns (k ∷ ks) [] [] h = tt
 signs_part ns (k ∷ ks) [] (y ∷ ys) h = absurd h
-signs_part ns (k ∷ ks) (b ∷ bs) [] h = absurd h
-signs_part ns (true ∷ ks) (b ∷ bs) (y ∷ ys) h = (h.0, signs_part ns ks bs ys h.1)
-signs_part ns (false ∷ ks) (b ∷ bs) (y ∷ ys) h = signs_part ns ks bs ys h.1
+signs_part ns (k ∷ ks) (r ∷ rs) [] h = absurd h
+signs_part ns (true ∷ ks) (r ∷ rs) (y ∷ ys) h = (h.0, signs_part ns ks rs ys h.1)
+signs_part ns (false ∷ ks) (r ∷ rs) (y ∷ ys) h = signs_part ns ks rs ys h.1
 
 -- a dual that is refuted over the whole problem is so over the kept sentences, where its other multipliers are 0
 refuted_part : (kept : List Bool) (p : Parts) (kind : ClaimKind) (given : Option ℕ) (both : ℕ) (d : claimed.Dual) → IsChoice kept p → AreZeroElsewhere (flags_of kept p.sentences) d.rows
     → IsRefuted p kind given both d → IsRefuted (kept_parts kept p) kind given both (kept_dual (flags_of kept p.sentences) d)
 refuted_part kept p kind given both d e off h =
     let flags = flags_of kept p.sentences in
-    let long : length flags ≡ length (bounds_in p.sentences) = length-flags kept p.sentences e in
-    let bounds : bounds_in (kept_of kept p.sentences) ≡ kept_of flags (bounds_in p.sentences) = bounds-kept kept p.sentences in
+    let long : length flags ≡ length (rows_in p.sentences) = length-flags kept p.sentences e in
+    let rows : rows_in (kept_of kept p.sentences) ≡ kept_of flags (rows_in p.sentences) = rows-kept kept p.sentences in
     record {
-      signs = subst (λ (bs : List Bound). HaveSigns (map (bound_of p.nodes) bs) (kept_of flags d.rows)) (sym bounds) (signs_part p.nodes flags (bounds_in p.sentences) d.rows h.signs);
+      signs = subst (λ (rs : List Row). HaveSigns (map (row_of p.nodes) rs) (kept_of flags d.rows)) (sym rows) (signs_part p.nodes flags (rows_in p.sentences) d.rows h.signs);
       steps =
-          subst (λ (bs : List Bound). Refutes (length p.nodes) (first_known (form_of p.nodes) (goal_of (combination_of kind given both bs (kept_dual flags d)))) d.steps) (sym bounds)
-          (subst (λ (c : Constraint). Refutes (length p.nodes) (first_known (form_of p.nodes) c) d.steps) (goal-kept flags kind given both (bounds_in p.sentences) d long off) h.steps);
+          subst (λ (rs : List Row). Refutes (length p.nodes) (first_known (form_of p.nodes) (goal_of (combination_of kind given both rs (kept_dual flags d)))) d.steps) (sym rows)
+          (subst (λ (c : Constraint). Refutes (length p.nodes) (first_known (form_of p.nodes) c) d.steps) (goal-kept flags kind given both (rows_in p.sentences) d long off) h.steps);
     }
 
 pub shown_none : (p : Parts) (kept : List Bool) (d : Dual) → AreParts p → IsChoice kept p → IsShownBy p kept d → CannotBeMet p kept
@@ -142,15 +145,15 @@ choice_without p kept i choice = length-set kept i false ∙ choice
 -- ---- runs
 -- the sentences that a dual uses, which a run over kept ones found, can't be met together
 pub found_conflict : (p : Parts) (kept used : List Bool) (limits : Limits) (new done : RunState) (d : Dual) → IsChoice kept p → IsNew p kept None limits new
-    → IsPhaseOneAnswer new done (first.Nothing d) → IsPrintedFirst (first.Nothing d) → used ≡ used_from p.sentences d.rows 0
+    → IsPhaseOneAnswer new done (first.Nothing d) → IsPrintedFirst (first.Nothing d) → used ≡ used_of p.sentences d.rows
     → IsConflictAmong p kept (record { kept = used; dual = d })
 found_conflict p kept used limits new done d choice is_new of printed e =
     let whole : IsOfTheWhole (limited p kept None limits) Nothing d = subst (λ o. IsOfTheWhole o Nothing d) is_new.over of.whole in
     let long : length d.rows ≡ length (bounds_in p.sentences) =
-    AllZip-long (λ b y. HasSign b.side y) (map (bound_of p.nodes) (bounds_in p.sentences)) d.rows whole.refuted.signs ∙ length-map (bounds_in p.sentences) (bound_of p.nodes) in
+    AllZip-long (λ r y. HasSign r.side y) (problem_rows p) d.rows whole.refuted.signs ∙ rows_many p ∙ length-map (bounds_in p.sentences) (bound_of p.nodes) in
     subst (λ ks. IsConflictAmong p kept (record { kept = ks; dual = d })) (sym e) (record {
       conflict = record {
-        choice = length_used p.sentences d.rows 0;
+        choice = length_used p.sentences d.rows;
         shown = record {
           shown = record { head = record { top = of.valid.head.top; head = of.valid.head.head }; refuted = whole.refuted };
           others = others_zero p.sentences d.rows long;

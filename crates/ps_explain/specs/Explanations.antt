@@ -35,10 +35,6 @@ numbers_of kept = map suc (places_from 0 kept)
 abbrev pub without : List Bool → ℕ → List Bool
 without kept i = set kept i false
 
--- the kept sentences, and the one at a place
-abbrev pub with_also : List Bool → ℕ → List Bool
-with_also kept i = set kept i true
-
 -- the sentences that are kept by the first are by the second
 abbrev pub AreAmong : List Bool → List Bool → Type 0
 AreAmong few many = AllZip (λ a b. a ≡ true → b ≡ true) few many
@@ -83,7 +79,7 @@ pub record IsOneShort (p : Parts) (kept : List Bool) : Type 0 where
   pub place : ℕ
   pub inside : place < length kept
   pub further : get_or kept place true ≡ false
-  pub inconsistent : CannotBeMet p (with_also kept place)
+  pub inconsistent : CannotBeMet p (set kept place true)
 
 -- a lawful run over a problem is open for the cause, by a licence
 abbrev pub IsOpen : Limits → Parts → Cause → List Event → Type 0

@@ -1,7 +1,7 @@
 -- The sentences whose bounds have multipliers other than 0.
-use Rattle.std.specs.Prelude.{ℕ, zero, suc, ℤ, pos, negsuc, Bool, true, false, ◌||◌, Option, Some, None, List, [], ◌∷◌, get_or}
-use Rattle.ps_problem.specs.declared.bound.Bound.{Bound}
+use Rattle.std.specs.Prelude.{ℕ, zero, suc, ℤ, pos, negsuc, Bool, true, false, ◌||◌, List, [], ◌∷◌, length, drop, get_or}
 use Rattle.ps_problem.specs.declared.sentence.Sentence.{Sentence}
+use Rattle.ps_problem.specs.Problems.{bounds_of_sentence}
 
 -- whether a number is another than 0
 abbrev pub is_other : ℤ → Bool
@@ -13,17 +13,13 @@ is_other (negsuc n) = true
 abbrev pub is_used : List ℤ → ℕ → Bool
 is_used ys at = is_other (get_or ys at (pos 0))
 
--- whether a multiplier of a sentence is, where that of its first bound is at this place
-abbrev pub uses : Option Bound → List ℤ → ℕ → Bool
-uses None ys at = is_used ys at
-uses (Some b) ys at = is_used ys at || is_used ys (suc at)
+-- whether one of the first multipliers, of so many, is
+abbrev pub has_other : ℕ → List ℤ → Bool
+has_other zero ys = false
+has_other (suc n) [] = false
+has_other (suc n) (y ∷ ys) = is_other y || has_other n ys
 
--- the place behind the multipliers of a sentence
-abbrev pub behind : Option Bound → ℕ → ℕ
-behind None at = suc at
-behind (Some b) at = suc (suc at)
-
--- whether each sentence has such a multiplier, where the first one's are at this place
-abbrev pub used_from : List Sentence → List ℤ → ℕ → List Bool
-used_from [] ys at = []
-used_from (s ∷ ss) ys at = uses s.second ys at ∷ used_from ss ys (behind s.second at)
+-- whether each sentence has such a multiplier: the first ones are those of its bounds
+abbrev pub used_of : List Sentence → List ℤ → List Bool
+used_of [] ys = []
+used_of (s ∷ ss) ys = has_other (length (bounds_of_sentence s)) ys ∷ used_of ss (drop (length (bounds_of_sentence s)) ys)

@@ -71,7 +71,7 @@ pub fn explain<G: Guesser>(
     ensures short { IfOk result HasShortLines }
 {
     // Called for its clauses: the problem is within the limits.
-    let _sound = problem.bound_list();
+    let _sound = problem.rows();
     let trials = Trials::new(alloc, problem, limits.conflicts)?;
     let means = Means {
         trials: &trials,

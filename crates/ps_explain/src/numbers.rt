@@ -39,7 +39,7 @@ pub(crate) fn numbers_of(
     ensures { IfOk result (λ numbers. numbers ≡ numbers_of kept.now) }
 {
     // Called for its clauses: the problem is within the limits.
-    let _sound = problem.bound_list();
+    let _sound = problem.rows();
     let mut numbers = List::new(alloc);
     for place in 0..kept.len() {
         push_number(&mut numbers, kept[place], place)?;

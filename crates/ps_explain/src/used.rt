@@ -1,6 +1,6 @@
 //! The sentences whose bounds a dual uses.
-ghost use Rattle.std.specs.Prelude.{◌≡◌, ◌<◌, ◌≤◌, ◌+◌, ◌^◌, IfOk};
-ghost use Rattle.ps_explain.specs.Used.{behind, is_other, is_used, uses, used_from};
+ghost use Rattle.std.specs.Prelude.{◌≡◌, ◌<◌, ◌+◌, ◌^◌, IfOk, drop};
+ghost use Rattle.ps_explain.specs.Used.{has_other, is_other, is_used, used_of};
 
 use ps_io::{List, NoMemory};
 use ps_problem::Sentence;
@@ -20,43 +20,35 @@ fn is_used(rows: &[i128], place: usize) -> bool
     place < rows.len() && is_other(rows[place])
 }
 
-/// Whether a bound of the sentence has a multiplier other than 0, where that of its first bound is
-/// at this place.
-fn uses(sentence: Sentence, rows: &[i128], place: usize) -> bool
-    requires { place + 2 < 2 ^ 64 }
-    ensures { result ≡ uses sentence.second rows.now place }
+/// Whether one of the multipliers of so many bounds, from a place on, is another than 0.
+#[tactic(auto, using(crate::proofs::Parts::other_first, crate::proofs::Parts::other_found, crate::proofs::Parts::other_passed, crate::proofs::Parts::other_none))]
+fn uses(rows: &[i128], place: usize, bounds: usize) -> bool
+    requires { place + bounds < 2 ^ 64 }
+    ensures { result ≡ has_other bounds (drop place rows.now) }
 {
-    match sentence.second {
-        Some(_) => is_used(rows, place) || is_used(rows, place + 1),
-        None => is_used(rows, place),
+    for at in place..place + bounds {
+        if is_used(rows, at) {
+            return true;
+        }
     }
-}
-
-/// The place behind the multipliers of a sentence.
-fn behind(sentence: Sentence, place: usize) -> usize
-    requires { place + 2 < 2 ^ 64 }
-    ensures value { result ≡ behind sentence.second place }
-    ensures most { result ≤ place + 2 }
-{
-    match sentence.second {
-        Some(_) => place + 2,
-        None => place + 1,
-    }
+    false
 }
 
 /// The sentences of which a bound has a multiplier other than 0, by a truth value for each.
+#[tactic(auto, using(crate::proofs::Parts::used_next))]
 pub(crate) fn used_by(
     alloc: Global,
     sentences: &[Sentence],
     rows: &[i128],
 ) -> Result<List<bool>, NoMemory>
-    ensures { IfOk result (λ used. used ≡ used_from sentences.now rows.now 0) }
+    ensures { IfOk result (λ used. used ≡ used_of sentences.now rows.now) }
 {
     let mut used = List::new(alloc);
     let mut place = 0;
     for sentence in sentences {
-        used.push(uses(*sentence, rows, place))?;
-        place = behind(*sentence, place);
+        let bounds = sentence.bounds() as usize;
+        used.push(uses(rows, place, bounds))?;
+        place += bounds;
     }
     Ok(used)
 }

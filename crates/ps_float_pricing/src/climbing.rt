@@ -4,8 +4,7 @@ use crate::float_goal::FloatGoal;
 use crate::limits::{MORE_STEPS, SEED};
 use crate::pool::Member;
 use crate::relaxed::Relaxed;
-use crate::row::Certainty;
-use ps_climb::{Demand, Goal as ClimbGoal, LocalSearch};
+use ps_climb::{Goal as ClimbGoal, LocalSearch};
 use ps_formula::World;
 use ps_io::NoMemory;
 use ps_problem::Problem;
@@ -17,15 +16,6 @@ pub(crate) struct Climbing {
     alloc: Global,
     local: LocalSearch,
     steps: u32,
-}
-
-/// What a certainty demands of a world.
-pub(crate) fn demand_of(certainty: &Certainty) -> Demand {
-    match certainty.given {
-        _ if !certainty.is_true => Demand::False(certainty.both),
-        Some(given) => Demand::Implies(given, certainty.both),
-        None => Demand::True(certainty.both),
-    }
 }
 
 // What a local search looks for.
@@ -53,10 +43,7 @@ impl Climbing {
         problem: &Problem,
         relaxed: &Relaxed,
     ) -> Result<Climbing, NoMemory> {
-        let mut demands = Vec::new(alloc);
-        for certainty in relaxed.certainties() {
-            demands.push(demand_of(certainty))?;
-        }
+        let demands = relaxed.demands(alloc)?;
         let atoms = problem.atoms();
         Ok(Climbing {
             alloc,

@@ -29,5 +29,5 @@ pub use multipliers::Multipliers;
 pub use pool::{Member, WorldPool};
 pub use pricer::{FloatPricer, Priced};
 pub use relaxed::Relaxed;
-pub use row::{Certainty, Row};
+pub use row::{Certainty, Row, RowTerm};
 pub use truth::{is_given, is_true};

@@ -7,9 +7,30 @@ use crate::multipliers::Multipliers;
 use crate::row::{Certainty, Row};
 use crate::sorting::{Part, part_of};
 use crate::truth::is_given;
-use ps_problem::{Bound, Problem};
+use ps_climb::Demand;
+use ps_io::NoMemory;
+use ps_problem::Problem;
 use std::alloc::{AllocError, Global};
 use std::num::nearest_i64_to_f64;
+
+// Adds a row, times its price.
+fn add_price(row: &Row, dual: f64, goal: &mut FloatGoal) {
+    for term in row.terms() {
+        goal.add(term.node, dual * term.share);
+    }
+    if row.base() != 0 {
+        goal.add_given(None, dual * row.base_share());
+    }
+}
+
+// Adds a row as its bound has it, times a multiplier.
+fn add_row(row: &Row, multiplier: i128, goal: &mut Goal) {
+    let turned = multiplier.wrapping_mul(row.sign() as i128);
+    for term in row.terms() {
+        goal.add(term.node, turned.wrapping_mul(term.number as i128));
+    }
+    goal.add_given(None, turned.wrapping_mul(row.base() as i128));
+}
 
 /// The most size of a multiplier.
 const MOST_MULTIPLIER: i128 = 1 << 90;
@@ -37,22 +58,40 @@ impl Relaxed {
         };
         for (place, sentence) in problem.sentences().as_slice().iter().enumerate() {
             let is_kept = kept.get(place).copied().unwrap_or(true);
-            relaxed.add(&sentence.first, is_kept)?;
-            if let Some(second) = &sentence.second {
-                relaxed.add(second, is_kept)?;
-            }
+            relaxed.add(alloc, problem, sentence.bounds(), is_kept)?;
         }
         Ok(relaxed)
     }
 
-    // Takes in the next bound, where it is kept.
-    fn add(&mut self, bound: &Bound, is_kept: bool) -> Result<(), AllocError> {
-        let number = self.bounds;
-        self.bounds = number.wrapping_add(1);
-        if !is_kept {
-            return Ok(());
+    // Takes in the next bounds, so many of them, where they are kept.
+    fn add(
+        &mut self,
+        alloc: Global,
+        problem: &Problem,
+        count: u32,
+        is_kept: bool,
+    ) -> Result<(), AllocError> {
+        for _ in 0..count {
+            let number = self.bounds;
+            self.bounds = number.wrapping_add(1);
+            if is_kept {
+                self.add_bound(alloc, problem, number)?;
+            }
         }
-        match part_of(number, bound) {
+        Ok(())
+    }
+
+    // Takes in the bound of a number.
+    fn add_bound(
+        &mut self,
+        alloc: Global,
+        problem: &Problem,
+        number: usize,
+    ) -> Result<(), AllocError> {
+        let Some(row) = problem.rows().get(number) else {
+            return Ok(());
+        };
+        match part_of(alloc, number, row, problem.formulas().nodes())? {
             Part::Row(row) => self.rows.push(row)?,
             Part::Certain(certainty) => self.certainties.push(certainty)?,
             Part::Met => {}
@@ -78,6 +117,15 @@ impl Relaxed {
     /// The certainties.
     pub fn certainties(&self) -> &[Certainty] {
         &self.certainties
+    }
+
+    /// What they demand of a world that a local search looks for.
+    pub fn demands(&self, alloc: Global) -> Result<Vec<Demand>, NoMemory> {
+        let mut demands = Vec::new(alloc);
+        for certainty in &self.certainties {
+            demands.push(certainty.demand())?;
+        }
+        Ok(demands)
     }
 
     /// Whether a world meets the certainties.
@@ -164,10 +212,8 @@ impl Relaxed {
     // Adds the rows' prices, which follow that of the evidence.
     fn add_prices(&self, duals: &[f64], goal: &mut FloatGoal) {
         for (row, dual) in self.rows.iter().zip(duals.iter().skip(1)) {
-            let price = dual * nearest_i64_to_f64(row.sign());
-            if price != 0.0 {
-                goal.add(row.bound.both, price);
-                goal.add_given(row.bound.given, -price * row.value());
+            if *dual != 0.0 {
+                add_price(row, *dual, goal);
             }
         }
     }
@@ -194,10 +240,7 @@ impl Relaxed {
         for row in &self.rows {
             let multiplier = multipliers.get(row.number);
             if multiplier != 0 {
-                let (num, den) = (row.bound.num as i128, row.bound.den as i128);
-                goal.add(row.bound.both, multiplier.wrapping_mul(den));
-                let loss = multiplier.wrapping_mul(num);
-                goal.add_given(row.bound.given, loss.wrapping_neg());
+                add_row(row, multiplier, &mut goal);
             }
         }
         Ok(goal)

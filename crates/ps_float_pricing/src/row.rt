@@ -1,8 +1,9 @@
 //! The bounds of a problem: rows, and certainties.
 
 use crate::truth::{is_given, is_true};
+use ps_climb::Demand;
 use ps_meaning::Side;
-use ps_problem::Bound;
+use std::alloc::{AllocError, Global};
 use std::num::nearest_i64_to_f64;
 
 /// A bound that each world must meet: where its condition is true, so is its formula, or where it
@@ -28,53 +29,124 @@ impl Certainty {
             !is_true(truth, self.both)
         }
     }
+
+    /// What it demands of a world that a local search looks for.
+    pub(crate) fn demand(&self) -> Demand {
+        match self.given {
+            _ if !self.is_true => Demand::False(self.both),
+            Some(given) => Demand::Implies(given, self.both),
+            None => Demand::True(self.both),
+        }
+    }
+}
+
+/// What counts in a row where a node is true.
+#[derive(Clone, Copy, Debug)]
+pub struct RowTerm {
+    /// The node.
+    pub node: u32,
+    /// The number that counts, turned as the row is.
+    pub number: i64,
+    /// The same over the row's denominator.
+    pub share: f64,
 }
 
 /// A bound that is a row of the program. Its sum over the worlds is to be 0, or at most 0: at-least
 /// bounds are turned.
-#[derive(Clone, Copy, Debug)]
+#[derive(Drop)]
 pub struct Row {
     /// The number of the bound, from 0.
     pub number: usize,
-    /// The bound.
-    pub bound: Bound,
+    side: Side,
+    base: i64,
+    terms: Vec<RowTerm>,
+    denominator: f64,
 }
 
-// A number, or 0.
-fn times(number: u32, counts: bool) -> i64 {
-    if counts { number as i64 } else { 0 }
+// 1, or -1 where a bound of this side is turned.
+fn sign_of(side: Side) -> i64 {
+    if side == Side::AtLeast { -1 } else { 1 }
+}
+
+// The greatest size that a row has in a world at most: that of its numbers above 0 together, or of
+// those below. Of the row of a plain bound it is the denominator of its value.
+fn greatest_size(row: &ps_problem::Row) -> i64 {
+    let mut above = row.base.max(0);
+    let mut below = row.base.min(0);
+    for term in row.terms.as_slice() {
+        above = above.wrapping_add(term.1.max(0));
+        below = below.wrapping_add(term.1.min(0));
+    }
+    above.max(below.wrapping_neg())
 }
 
 impl Row {
+    /// The row of a bound of a number, from 0. Numbers that are 0 are left out.
+    pub(crate) fn new(
+        alloc: Global,
+        number: usize,
+        row: &ps_problem::Row,
+    ) -> Result<Row, AllocError> {
+        let sign = sign_of(row.side);
+        let denominator = nearest_i64_to_f64(greatest_size(row).max(1));
+        let mut terms = Vec::new(alloc);
+        for term in row.terms.as_slice() {
+            let turned = sign.wrapping_mul(term.1);
+            if turned != 0 {
+                terms.push(RowTerm {
+                    node: term.0,
+                    number: turned,
+                    share: nearest_i64_to_f64(turned) / denominator,
+                })?;
+            }
+        }
+        Ok(Row {
+            number,
+            side: row.side,
+            base: sign.wrapping_mul(row.base),
+            terms,
+            denominator,
+        })
+    }
+
     /// Whether its sum is to be exactly 0.
     pub fn is_equation(&self) -> bool {
-        self.bound.side == Side::Exactly
+        self.side == Side::Exactly
     }
 
     /// 1, or -1 where the bound is turned.
     pub fn sign(&self) -> i64 {
-        if self.bound.side == Side::AtLeast {
-            -1
-        } else {
-            1
-        }
+        sign_of(self.side)
     }
 
-    /// Its entry for a world: the denominator where formula and condition are true, less the numerator
-    /// where the condition is, turned.
+    /// The number that counts in each world, turned as the row is.
+    pub fn base(&self) -> i64 {
+        self.base
+    }
+
+    /// What counts where nodes are true.
+    pub fn terms(&self) -> &[RowTerm] {
+        &self.terms
+    }
+
+    /// Its entry for a world: the base, and the numbers of the terms whose nodes are true.
     pub fn entry(&self, truth: &[bool]) -> i64 {
-        let gain = times(self.bound.den, is_true(truth, self.bound.both));
-        let loss = times(self.bound.num, is_given(truth, self.bound.given));
-        self.sign().wrapping_mul(gain.wrapping_sub(loss))
+        let mut sum = self.base;
+        for term in &self.terms {
+            if is_true(truth, term.node) {
+                sum = sum.wrapping_add(term.number);
+            }
+        }
+        sum
     }
 
-    /// The denominator of its value.
+    /// What its entries are over where they are floats: no entry is larger.
     pub fn denominator(&self) -> f64 {
-        nearest_i64_to_f64(self.bound.den as i64)
+        self.denominator
     }
 
-    /// Its value.
-    pub fn value(&self) -> f64 {
-        nearest_i64_to_f64(self.bound.num as i64) / self.denominator()
+    /// The base over the denominator.
+    pub fn base_share(&self) -> f64 {
+        nearest_i64_to_f64(self.base) / self.denominator
     }
 }

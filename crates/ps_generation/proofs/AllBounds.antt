@@ -1,9 +1,12 @@
 -- A dual of the kept bounds, spread over all.
-use Rattle.std.proofs.Common.{◌≡◌, ℕ, zero, suc, ◌+◌, ◌<◌, ◌≤◌, ℤ, pos, Bool, true, false, cond, List, [], ◌∷◌, ◌++◌, length, get_or, drop, All, refl, sym, ap, ◌∙◌, subst, arith}
+use Rattle.std.proofs.Common.{◌≡◌, ℕ, zero, suc, ◌+◌, ◌<◌, ◌≤◌, ℤ, pos, Bool, true, false, cond, List, [], ◌∷◌, ◌++◌, length, get_or, drop, map, replicate, All, refl, sym, ap, ◌∙◌, subst, arith}
+use Rattle.std.proofs.lemmas.List.{append-nil}
 use Rattle.std.proofs.lemmas.List.Elements.{All-nil, All-cons, All-head, All-tail}
 use Rattle.std.proofs.Math.Seq.{drop-cons}
-use Rattle.ps_problem.specs.declared.bound.Bound.{Bound}
-use Rattle.ps_problem.specs.Problems.{Parts, bounds_in}
+use Rattle.ps_problem.specs.declared.row.Row.{Row}
+use Rattle.ps_problem.specs.declared.sentence.Sentence.{Sentence}
+use Rattle.ps_problem.specs.Problems.{Parts, bounds_of_sentence}
+use Rattle.ps_problem.specs.Rows.{rows_in}
 use Rattle.ps_claims.specs.declared.claim_kind.ClaimKind.{ClaimKind}
 use Rattle.ps_claims.specs.Duals as claims
 use Rattle.ps_claims.specs.Duals.{AreZeroElsewhere}
@@ -13,7 +16,7 @@ use Rattle.ps_claims.specs.Certificates.{IsMultiplier}
 use Rattle.ps_claims.specs.Printed.{IsPrintedDual}
 use Rattle.ps_runs.specs.Kept.{kept_of, flags_of}
 use Rattle.ps_runs.specs.Subjects.{given_in, both_in}
-use Rattle.ps_runs.proofs.Kept.{same-count, bounds-kept, length-flags, refuted-kept, part-next}
+use Rattle.ps_runs.proofs.Kept.{same-count, rows-kept, length-flags, refuted-kept, part-next}
 use Rattle.ps_generation.specs.Phases.{LimitedSubject, IsSpread}
 use Rattle.ps_generation.specs.Spreading.{spread_of, number_for, next_for, IsKeptOf}
 
@@ -99,14 +102,23 @@ spread-next ks ys all longer i n m inside is next h = record {
     one : (i : ℕ) → i + 1 ≡ suc i
     one i = omega arith
 
+-- ---- flags
+-- a truth value for each bound of a sentence
+pub flags-one : (k : Bool) (s : Sentence) → flags_of (k ∷ []) (s ∷ []) ≡ replicate (length (bounds_of_sentence s)) k
+flags-one k s = append-nil (map (λ b. k) (bounds_of_sentence s)) ∙ each (bounds_of_sentence s)
+  where
+    each : {T : Type 0} (xs : List T) → map (λ (x : T). k) xs ≡ replicate (length xs) k
+    each [] = refl
+    each (x ∷ xs) = ap (λ ks. k ∷ ks) (each xs)
+
 -- ---- duals
--- as many are kept as the problem of the kept sentences has bounds
-kept_count : (p part : Parts) (flags : List Bool) (h : IsKeptOf p flags part) → length (bounds_in part.sentences) ≡ length (kept_of flags flags)
+-- as many are kept as the problem of the kept sentences has rows
+kept_count : (p part : Parts) (flags : List Bool) (h : IsKeptOf p flags part) → length (rows_in part.sentences) ≡ length (kept_of flags flags)
 kept_count p part flags h =
-    let long : length (flags_of h.kept p.sentences) ≡ length (bounds_in p.sentences) = length-flags h.kept p.sentences h.each in
-    ap (λ (q : Parts). length (bounds_in q.sentences)) h.parts
-    ∙ ap (λ (bs : List Bound). length bs) (bounds-kept h.kept p.sentences)
-    ∙ same-count (flags_of h.kept p.sentences) (bounds_in p.sentences) (flags_of h.kept p.sentences) (sym long)
+    let long : length (flags_of h.kept p.sentences) ≡ length (rows_in p.sentences) = length-flags h.kept p.sentences h.each in
+    ap (λ (q : Parts). length (rows_in q.sentences)) h.parts
+    ∙ ap (λ (rs : List Row). length rs) (rows-kept h.kept p.sentences)
+    ∙ same-count (flags_of h.kept p.sentences) (rows_in p.sentences) (flags_of h.kept p.sentences) (sym long)
     ∙ sym (ap (λ fs. length (kept_of fs fs)) h.flags_are)
 
 refuted_whole : (p part : Parts) (flags : List Bool) (h : IsKeptOf p flags part) (kind : ClaimKind) (given : _) (both : ℕ) (d : claims.Dual) → AreZeroElsewhere flags d.rows
@@ -117,7 +129,7 @@ refuted_whole p part flags h kind given both d off refuted =
     (subst (λ (q : Parts). IsRefuted q kind given both (record { top = d.top; head = d.head; rows = kept_of fs d.rows; steps = d.steps })) h.parts
     (subst (λ gs. IsRefuted part kind given both (record { top = d.top; head = d.head; rows = kept_of gs d.rows; steps = d.steps })) h.flags_are refuted))
 
-pub is_spread : (r : LimitedSubject) (h : IsKeptOf r.whole r.flags r.subject.parts) (e : Dual) (rows : List ℤ) → length e.rows ≡ length (bounds_in r.subject.parts.sentences)
+pub is_spread : (r : LimitedSubject) (h : IsKeptOf r.whole r.flags r.subject.parts) (e : Dual) (rows : List ℤ) → length e.rows ≡ length (rows_in r.subject.parts.sentences)
     → rows ≡ spread_of r.flags e.rows → IsSpread r e (record { top = e.top; head = e.head; rows = rows; steps = e.steps })
 is_spread r h e rows long is =
     let back : kept_of r.flags rows ≡ e.rows = ap (kept_of r.flags) is ∙ kept-spread r.flags e.rows (long ∙ kept_count r.whole r.subject.parts r.flags h) in

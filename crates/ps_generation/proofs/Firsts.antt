@@ -10,6 +10,7 @@ use Rattle.ps_answer.specs.declared.answer.Cause.{Cause}
 use Rattle.ps_answer.specs.declared.answer.Cause.TheVariants.{Wide}
 use Rattle.ps_answer.specs.declared.answer.Dual.{Dual}
 use Rattle.ps_answer.specs.declared.answer.Model.{Model}
+use Rattle.ps_problem.specs.Problems.{AreParts}
 use Rattle.ps_claims.specs.declared.claim_kind.ClaimKind.TheVariants.{Nothing}
 use Rattle.ps_claims.specs.Validity.{ShowsNothing}
 use Rattle.ps_runs.specs.Subjects.{setting_of, given_in, frame_of, program_of}
@@ -75,10 +76,10 @@ module _ (r : LimitedSubject) (old new : State) (start : IsAtStart (run_of r old
       };
     }
 
-    pub first_reached : (m : Model) → IsTableModel new.table new.pool m → IsPhaseOneAnswer (run_of r old false) (run_of r new false) (first.Reached m)
-    first_reached m is =
+    pub first_reached : (m : Model) → AreParts r.subject.parts → IsTableModel new.table new.pool m → IsPhaseOneAnswer (run_of r old false) (run_of r new false) (first.Reached m)
+    first_reached m are is =
         answered come (first.Reached m) (models.model_at r.subject new.pool new.table left.table m feasible is)
-        (models.consistent r.subject new.pool new.table left.table m left.pool_kept feasible is, models.allowed r.subject new.pool new.table left.table m left.pool_kept feasible is) tt reached
+        (models.consistent r.subject new.pool new.table left.table m are left.pool_kept feasible is, models.allowed r.subject new.pool new.table left.table m are left.pool_kept feasible is) tt reached
 
     pub first_wide : (at : WideAt) → IsWideAt (ModelPlaces new.table) at → IsPhaseOneAnswer (run_of r old false) (run_of r new false) (first.Open (Wide at))
     first_wide at wide = answered come (first.Open (Wide at)) (models.model_wide r.subject new.pool new.table left.table Nothing new.left at feasible wide) tt tt tt

@@ -18,3 +18,4 @@ pub mod Ready
 pub mod Values
 pub mod Memory
 pub mod Sure
+pub mod RowValues

@@ -12,11 +12,12 @@ use Rattle.ps_claims.specs.declared.claim_kind.ClaimKind.{ClaimKind}
 use Rattle.ps_runs.specs.Subjects.{Subject, setting_of, atoms_of, frame_of, program_of}
 use Rattle.ps_runs.specs.Runs.{IsPool, table_at, IsFeasibleAt, IsModelAt}
 use Rattle.ps_runs.specs.Certificates.{table_model}
-use Rattle.ps_problem.specs.Problems.{bounds_of}
+use Rattle.ps_problem.specs.Problems.{AreParts, bounds_of}
 use Rattle.ps_claims.specs.Queries.{IsAllowed}
 use Rattle.ps_claims.specs.Answers as claimed
 use Rattle.ps_claims.specs.Answers.{ShowsConsistent}
 use Rattle.ps_claims.specs.Certificates.{model_of}
+use Rattle.ps_claims.proofs.ProblemRows.{problem-rows}
 use Rattle.ps_runs.specs.Tables.{IsRunTable, stage_at}
 use Rattle.ps_runs.specs.Licences.{IsModelDue, IsTooWide}
 use Rattle.ps_runs.proofs.Shapes.{same_table, run_table}
@@ -46,14 +47,14 @@ module _ (s : Subject) (pool : List World) (t : Tableau) (run : IsRunTable (fram
       → IsTooWide (program_of kind s) (stage_at pool t) left at
   model_wide kind left at due wide = model_due s pool t run kind left at due wide
 
-  pub consistent : (m : Model) → IsPool (atoms_of s) pool → IsFeasibleAt (frame_of s) (stage_at pool t) (entry_at t) → IsTableModel t pool m
+  pub consistent : (m : Model) → AreParts s.parts → IsPool (atoms_of s) pool → IsFeasibleAt (frame_of s) (stage_at pool t) (entry_at t) → IsTableModel t pool m
       → ShowsConsistent (atoms_of s) (bounds_of s.parts) (model_of m)
-  consistent m pooled feasible is =
+  consistent m are pooled feasible is =
       subst (ShowsConsistent (atoms_of s) (bounds_of s.parts)) (sym (is_table_model m is))
-      (consistent_at_end s (stage_at pool t) (entry_at t) (run_table (setting_of s) pool t run) feasible.feasible pooled)
+      (consistent_at_end s (stage_at pool t) (entry_at t) are (run_table (setting_of s) pool t run) feasible.feasible pooled)
 
-  pub allowed : (m : Model) → IsPool (atoms_of s) pool → IsFeasibleAt (frame_of s) (stage_at pool t) (entry_at t) → IsTableModel t pool m
+  pub allowed : (m : Model) → AreParts s.parts → IsPool (atoms_of s) pool → IsFeasibleAt (frame_of s) (stage_at pool t) (entry_at t) → IsTableModel t pool m
       → IsAllowed (atoms_of s) (bounds_of s.parts) (setting_of s).query.evidence (model_of m).worlds
-  allowed m pooled feasible is =
+  allowed m are pooled feasible is =
       subst (λ (n : claimed.Model). IsAllowed (atoms_of s) (bounds_of s.parts) (setting_of s).query.evidence n.worlds) (sym (is_table_model m is))
-      (allowed_at_end (setting_of s) pool (basic_at t) (entry_at t) (run_table (setting_of s) pool t run) (atoms_of s) feasible.feasible pooled.different pooled.sized)
+      (allowed_at_end (bounds_of s.parts) (setting_of s) pool (basic_at t) (entry_at t) (problem-rows s.parts are) (run_table (setting_of s) pool t run) (atoms_of s) feasible.feasible pooled.different pooled.sized)

@@ -5,7 +5,8 @@ use Rattle.std.proofs.lemmas.List.{length-map}
 use Rattle.ps_meaning.specs.Rational.{Rational}
 use Rattle.ps_table.specs.Tableau.{entry_at}
 use Rattle.ps_problem.specs.declared.query.Query as stored
-use Rattle.ps_problem.specs.Problems.{Parts, bounds_in, bound_of}
+use Rattle.ps_problem.specs.Problems.{Parts, AreParts}
+use Rattle.ps_problem.specs.Rows.{rows_in, row_of}
 use Rattle.ps_simplex.specs.Rule.{IsFeasible, IsResting}
 use Rattle.ps_answer.specs.declared.answer.Cause.{Cause}
 use Rattle.ps_answer.specs.declared.answer.Cause.TheVariants.{Pivots, Conflicts, Wide}
@@ -60,6 +61,7 @@ spread_top kind r g X e d apart end spread = subst (λ (x : Dual). pos 1 ≤ℤ 
 
 -- what makes a value tight
 record ShowsAtEnd (kind : ClaimKind) (g : Stage) (X : ℕ → ℕ → Rational) (value : Rational) (d : claims.Dual) (s : Subject) : Type 0 where
+  parts : AreParts s.parts
   numbers : HaveSameNumbers d (dual_at (program_of kind s) g X)
   head : HasValueHead value d
   table : IsTable (setting_of s) g.pool g.basis X
@@ -70,7 +72,7 @@ record ShowsAtEnd (kind : ClaimKind) (g : Stage) (X : ℕ → ℕ → Rational) 
 
 tight_so : (kind : ClaimKind) (p : Parts) (q : stored.Query) (g : Stage) (X : ℕ → ℕ → Rational) (value : Rational) (d : claims.Dual) → kind ≢ Nothing
     → ShowsAtEnd kind g X value d (subject_of p q) → ShowsTight p kind q value (table_model (table_at (frame_of (subject_of p q)) g X) g.pool) d
-tight_so kind p q g X value d apart h = tight_at_end kind p q g X value d apart h.numbers h.head h.table h.feasible h.pooled h.resting h.steps
+tight_so kind p q g X value d apart h = tight_at_end kind p q g X value d apart h.parts h.numbers h.head h.table h.feasible h.pooled h.resting h.steps
 
 module _ (kind : ClaimKind) (r : LimitedSubject) (old new : State) (apart : kind ≢ Nothing) where
   answered : (come : HasCome kind r old new) (answer : SideAnswer) → IsSideAt (program_of kind r.subject) r.limits (stage_of new) new.left (kept_side r.flags answer)
@@ -87,9 +89,10 @@ module _ (kind : ClaimKind) (r : LimitedSubject) (old new : State) (apart : kind
   }
 
   -- at rest, where no world's combination is above 0
-  module _ (d : Dual) (come : HasCome kind r old new) (end : IsDualEnd (program_of kind r.subject) (stage_of new) (entry_at new.table) d) (left : IsLeft kind r.subject old new) where
+  module _ (d : Dual) (come : HasCome kind r old new) (end : IsDualEnd (program_of kind r.subject) (stage_of new) (entry_at new.table) d) (left : IsLeft kind r.subject old new) (are : AreParts r.subject.parts) where
     shown : (value : Rational) → HasValueHead value (dual_of d) → ShowsAtEnd kind (stage_of new) (entry_at new.table) value (dual_of d) r.subject
     shown value head = record {
+      parts = are;
       numbers = end.numbers;
       head = head;
       table = run_table (setting_of r.subject) new.pool new.table left.table;
@@ -144,6 +147,6 @@ module _ (kind : ClaimKind) (r : LimitedSubject) (old new : State) (apart : kind
   side_open cause end = answered end.come (side.Open cause) end.licensed (λ q e. tt) tt
 
 -- a dual has a multiplier for each bound of the kept sentences
-pub as_many_rows : (kind : ClaimKind) (s : Subject) (g : Stage) (X : ℕ → ℕ → Rational) (d : Dual) → IsDualEnd (program_of kind s) g X d → length d.rows ≡ length (bounds_in s.parts.sentences)
+pub as_many_rows : (kind : ClaimKind) (s : Subject) (g : Stage) (X : ℕ → ℕ → Rational) (d : Dual) → IsDualEnd (program_of kind s) g X d → length d.rows ≡ length (rows_in s.parts.sentences)
 as_many_rows kind s g X d end =
-    ap (λ (ys : List ℤ). length ys) end.numbers.rows ∙ signed-length (setting_of s).bounds _ ∙ length-map (bounds_in s.parts.sentences) (bound_of s.parts.nodes)
+    ap (λ (ys : List ℤ). length ys) end.numbers.rows ∙ signed-length (setting_of s).rows _ ∙ length-map (rows_in s.parts.sentences) (row_of s.parts.nodes)

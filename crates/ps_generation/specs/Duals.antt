@@ -1,8 +1,8 @@
 -- The duals of the solver's tables.
 use Rattle.std.specs.Prelude.{◌≡◌, ℕ, suc, ℤ, pos, List, get_or, map}
 use Rattle.ps_formula.specs.declared.node.Node.{Node}
-use Rattle.ps_problem.specs.declared.bound.Bound.{Bound}
-use Rattle.ps_problem.specs.Problems.{bound_of}
+use Rattle.ps_problem.specs.declared.row.Row.{Row}
+use Rattle.ps_problem.specs.Rows.{row_of}
 use Rattle.ps_claims.specs.Queries.{Query}
 use Rattle.ps_table.specs.declared.costs.Costs.{Costs}
 use Rattle.ps_table.specs.Tableau.{Tableau}
@@ -14,17 +14,17 @@ use Rattle.ps_claims.specs.Certificates.{dual_of}
 use Rattle.ps_runs.specs.Certificates.{signed, table_dual, HaveSameNumbers}
 
 -- the whole numbers of the rows of bounds, which stand behind that of row 0
-abbrev pub bound_numbers : List ℤ → ℕ → ℤ
-bound_numbers numbers i = get_or numbers (suc i) (pos 0)
+abbrev pub row_numbers : List ℤ → ℕ → ℤ
+row_numbers numbers i = get_or numbers (suc i) (pos 0)
 
--- these are the whole numbers of the rows of bounds, turned round at lower bounds, whatever the nodes
-abbrev pub AreSigned : List Bound → (ℕ → ℤ) → List ℤ → Type 0
-AreSigned bounds P rows = (ns : List Node) → rows ≡ signed (map (bound_of ns) bounds) P
+-- these are the whole numbers of rows, turned round at those of lower bounds, whatever the nodes
+abbrev pub AreSigned : List Row → (ℕ → ℤ) → List ℤ → Type 0
+AreSigned rows P numbers = (ns : List Node) → numbers ≡ signed (map (row_of ns) rows) P
 
--- the dual has the numbers of the dual of a table over these bounds, whatever the nodes and the query
-abbrev pub IsTableDual : ClaimKind → List Bound → Tableau → Costs → Dual → Type 0
-IsTableDual kind bounds t costs d = (ns : List Node) (q : Query)
+-- the dual has the numbers of the dual of a table over these rows, whatever the nodes and the query
+abbrev pub IsTableDual : ClaimKind → List Row → Tableau → Costs → Dual → Type 0
+IsTableDual kind rows t costs d = (ns : List Node) (q : Query)
     → HaveSameNumbers (dual_of d) (table_dual kind (record {
-      bounds = map (bound_of ns) bounds;
+      rows = map (row_of ns) rows;
       query = q;
     }) (simplex_of t) (cost_at costs))

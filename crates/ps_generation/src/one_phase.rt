@@ -1,6 +1,7 @@
 //! A phase with the costs of its claim.
 ghost use Rattle.std.specs.Prelude.{◌≢◌, IfOk};
 ghost use Rattle.ps_simplex.specs.Rule.{IsFeasible};
+ghost use Rattle.ps_problem.specs.Problems.{AreParts};
 ghost use Rattle.ps_bland.specs.Rules.{simplex_of};
 ghost use Rattle.ps_claims.specs.declared.claim_kind.ClaimKind.TheVariants.{Nothing};
 ghost use Rattle.ps_runs.specs.Subjects.{IsAsked};
@@ -27,6 +28,7 @@ pub(crate) fn phase(
     requires there { HasRunTable setting.now.subject state.old }
     requires feasible { kind ≢ Nothing → IsFeasible (simplex_of state.old.table) }
     requires room { HasRoom state.old }
+    ensures parts { AreParts setting.now.subject.parts }
     ensures end { IfOk result (IsEnd kind setting.now state.old state.new) }
     ensures left { IfOk result (λ _. IsLeft kind setting.now.subject state.old state.new) }
     ensures pivots { IfOk result

@@ -1,6 +1,7 @@
 //! What a run is over.
 ghost use Rattle.std.specs.Prelude.{◌≡◌, [], length, IfOk, IfErr, IfSome};
-ghost use Rattle.ps_problem.specs.Problems.{HasNodes, AreParts, bounds_in};
+ghost use Rattle.ps_problem.specs.Problems.{HasNodes, AreParts};
+ghost use Rattle.ps_problem.specs.Rows.{rows_in};
 ghost use Rattle.ps_table.specs.Tableau.{rows_of as table_rows};
 ghost use Rattle.ps_table.specs.Pricing.{HasCosts};
 ghost use Rattle.ps_table.specs.Places.{IsNarrow, IsRefusedAt};
@@ -110,7 +111,7 @@ impl<'p> Setting<'p> {
     pub fn start(&self, alloc: Global) -> Result<State, NoMemory>
         ensures { IfOk result (IsNewState self.now) }
     {
-        let homes = homes_of(alloc, self.pricer.bounds())?;
+        let homes = homes_of(alloc, self.pricer.rows())?;
         let table = Table::new(alloc, &homes)?;
         // Called for its clauses: the table is in the form in which tables are kept.
         let _sound = table.rows();
@@ -127,7 +128,8 @@ impl<'p> Setting<'p> {
         requires asked { IsAsked kind self.now.subject.parts self.now.subject.query }
         requires table { IsRunTable (frame_of self.now.subject) state.now.pool state.now.table }
         requires pool { IsPool (atoms_of self.now.subject) state.now.pool }
-        ensures { IfOk result
+        ensures parts { AreParts self.now.subject.parts }
+        ensures costs { IfOk result
             (λ c. c ≡ costs_for kind (setting_of self.now.subject) state.now.pool) }
     {
         costs_for(
@@ -151,10 +153,10 @@ impl<'p> Setting<'p> {
         requires sized { length world.now ≡ atoms_of self.now.subject }
         ensures { IfOk result (IsColumnOf kind self.now.subject world.now) }
     {
-        let bounds = self.pricer.bounds();
+        let rows = self.pricer.rows();
         let values = eval(alloc, self.problem.formulas(), world)?;
         Ok(Column {
-            entries: column_of(alloc, &values, bounds, self.pricer.evidence())?,
+            entries: column_of(alloc, &values, rows, self.pricer.evidence())?,
             cost: world_cost(phase_of(kind), self.pricer.both(), &values),
         })
     }
@@ -175,7 +177,7 @@ impl<'p> Setting<'p> {
         ensures narrow { IfOk result (λ _. IsNarrow (DualPlaces table.now costs.now)) }
         ensures refused { IfErr result (IsRefusedAt (DualPlaces table.now costs.now)) }
     {
-        dual_of(alloc, self.pricer.bounds(), kind, table, costs)
+        dual_of(alloc, self.pricer.rows(), kind, table, costs)
     }
 
     /// Looks for a world of greatest combination of a dual, if one is at least 1.
@@ -193,13 +195,13 @@ impl<'p> Setting<'p> {
     {
         // Called for its clauses: the problem of the kept sentences is within the limits, and its
         // numbers are in range.
-        let _sound = self.pricer.bounds();
+        let _sound = self.pricer.rows();
         self.pricer.price(alloc, kind, dual)
     }
 
     /// A dual of the kept bounds as one of the whole problem, with multiplier 0 at each other.
     pub fn spread(&self, alloc: Global, dual: Dual) -> Result<Dual, NoMemory>
-        requires rows { length dual.rows ≡ length (bounds_in self.now.subject.parts.sentences) }
+        requires rows { length dual.rows ≡ length (rows_in self.now.subject.parts.sentences) }
         ensures spread { IfOk result (IsSpread self.now dual) }
         ensures printed { IsPrintedDual dual → IfOk result IsPrintedDual }
     {

@@ -10,14 +10,13 @@ use ps_problem::Sentence;
 use std::alloc::Global;
 
 /// Adds whether a sentence is kept, for each of its bounds.
-fn push_flags(flags: &mut List<bool>, kept: bool, sentence: Sentence) -> Result<(), NoMemory>
-    ensures { OnOk result (flags.new ≡ flags.old ++ flags_of (kept ∷ []) (sentence ∷ [])) }
+fn push_flags(flags: &mut List<bool>, kept: bool, sentence: &Sentence) -> Result<(), NoMemory>
+    ensures { OnOk result (flags.new ≡ flags.old ++ flags_of (kept ∷ []) (sentence.now ∷ [])) }
 {
-    flags.push(kept)?;
-    match sentence.second {
-        Some(_) => flags.push(kept),
-        None => Ok(()),
+    for _ in 0..sentence.bounds() {
+        flags.push(kept)?;
     }
+    Ok(())
 }
 
 /// Whether each bound is kept, by a truth value for each sentence.
@@ -31,7 +30,7 @@ pub(crate) fn flags_of(
 {
     let mut flags = List::new(alloc);
     for i in 0..sentences.len() {
-        push_flags(&mut flags, kept[i], sentences[i])?;
+        push_flags(&mut flags, kept[i], &sentences[i])?;
     }
     Ok(flags)
 }

@@ -8,13 +8,13 @@ ghost use Rattle.ps_generation.specs.Multiples.{DualPlaces};
 ghost use Rattle.ps_problem.specs.Rows.{signed_by};
 ghost use Rattle.ps_runs.specs.Certificates.{top_of, head_of};
 ghost use Rattle.ps_claims.specs.Certificates.{IsMultiplier, IsSmallDual};
-ghost use Rattle.ps_generation.specs.Duals.{AreSigned, IsTableDual, bound_numbers};
+ghost use Rattle.ps_generation.specs.Duals.{AreSigned, IsTableDual, row_numbers};
 
 use crate::multipliers::scaled_multipliers;
 use ps_answer::Dual;
 use ps_claims::ClaimKind;
 use ps_io::{List, NoMemory};
-use ps_problem::{Bound, Side};
+use ps_problem::{Row, Side};
 use ps_table::{Costs, Table, TableError};
 use std::alloc::Global;
 
@@ -42,7 +42,7 @@ fn head_of(kind: ClaimKind, number: i128) -> i128
     }
 }
 
-/// A bound's multiplier: that of its row, turned round for a lower bound.
+/// A row's multiplier in a dual: that of the table, turned round for a lower bound.
 fn multiplier_of(side: Side, number: i128) -> i128
     requires { IsMultiplier number }
     ensures value { result ≡ signed_by side number }
@@ -54,35 +54,36 @@ fn multiplier_of(side: Side, number: i128) -> i128
     }
 }
 
-/// A multiplier for each bound, by the whole multipliers of all rows.
-fn bound_rows(alloc: Global, bounds: &[Bound], numbers: &[i128]) -> Result<List<i128>, NoMemory>
-    requires count { length numbers.now ≡ suc (length bounds.now) }
+/// A multiplier for each row, by the whole multipliers of the table: that of row 0, and behind it
+/// these rows'.
+fn bound_rows(alloc: Global, rows: &[Row], numbers: &[i128]) -> Result<List<i128>, NoMemory>
+    requires count { length numbers.now ≡ suc (length rows.now) }
     requires small { All IsMultiplier numbers.now }
-    ensures rows { IfOk result (AreSigned bounds.now (bound_numbers numbers.now)) }
+    ensures rows { IfOk result (AreSigned rows.now (row_numbers numbers.now)) }
     ensures small { IfOk result (All IsMultiplier) }
 {
-    let mut rows = List::new(alloc);
-    for i in 0..bounds.len() {
-        rows.push(multiplier_of(bounds[i].side, numbers[i + 1]))?;
+    let mut multipliers = List::new(alloc);
+    for i in 0..rows.len() {
+        multipliers.push(multiplier_of(rows[i].side, numbers[i + 1]))?;
     }
-    Ok(rows)
+    Ok(multipliers)
 }
 
 /// The dual of a table, without steps: the multipliers of its rows, each times the least common
-/// multiple of their denominators. Row 0 gives the head, and the row of each bound the bound's
-/// multiplier.
+/// multiple of their denominators. Row 0 gives the head, and each row behind it the multiplier of
+/// its bound.
 pub fn dual_of(
     alloc: Global,
-    bounds: &[Bound],
+    rows: &[Row],
     kind: ClaimKind,
     table: &Table,
     costs: &Costs,
 ) -> Result<Dual, TableError>
     requires costs { HasCosts costs.now table.now }
-    requires rows { rows_of table.now ≡ suc (length bounds.now) }
-    ensures value { IfOk result (IsTableDual kind bounds.now table.now costs.now) }
+    requires rows { rows_of table.now ≡ suc (length rows.now) }
+    ensures value { IfOk result (IsTableDual kind rows.now table.now costs.now) }
     ensures small { IfOk result IsSmallDual }
-    ensures count { IfOk result (λ d. length d.rows ≡ length bounds.now) }
+    ensures count { IfOk result (λ d. length d.rows ≡ length rows.now) }
     ensures steps { IfOk result (λ d. d.steps ≡ []) }
     ensures narrow { IfOk result (λ _. IsNarrow (DualPlaces table.now costs.now)) }
     ensures refused { IfErr result (IsRefusedAt (DualPlaces table.now costs.now)) }
@@ -92,7 +93,7 @@ pub fn dual_of(
     Ok(Dual {
         top: top_of(kind, scaled.multiple),
         head: head_of(kind, numbers[0]),
-        rows: bound_rows(alloc, bounds, numbers)?,
+        rows: bound_rows(alloc, rows, numbers)?,
         steps: List::new(alloc),
     })
 }

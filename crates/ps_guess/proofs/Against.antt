@@ -13,7 +13,9 @@ use Rattle.ps_clause.proofs.Idle.{form-clauses}
 use Rattle.ps_clause.proofs.Extends.{met-extension}
 use Rattle.ps_clause.proofs.Worlds.{world_of-agrees}
 use Rattle.ps_problem.specs.declared.query.Query.{Query}
-use Rattle.ps_problem.specs.Problems.{Parts, AreParts, bounds_in}
+use Rattle.ps_problem.specs.Problems.{Parts, AreParts}
+use Rattle.ps_problem.specs.Rows.{rows_in}
+use Rattle.ps_problem.proofs.BoundRows.{are-rows}
 use Rattle.ps_answer.specs.declared.answer.Dual.{Dual}
 use Rattle.ps_io.specs.declared.no_memory.NoMemory.{NoMemory}
 use Rattle.ps_claims.specs.Certificates.{dual_of}
@@ -52,5 +54,5 @@ pub goal_within : (p : Parts) (kind : ClaimKind) (query : Option Query) (d : Dua
     → IfOk r (λ c. c ≡ goal_of (combined p kind query d)) → IfOk r (IsWithin (length p.nodes))
 goal_within p kind query d (Err e) are asked value = tt
 goal_within p kind query d (Ok c) are asked value =
-    let below = combination_below kind p.nodes (given_in query) (both_in query) (bounds_in p.sentences) (dual_of d) are.bounds (given_there kind p query asked) (both_there kind p query asked) in
+    let below = combination_below kind p.nodes (given_in query) (both_in query) (rows_in p.sentences) (dual_of d) (are-rows p.nodes p.sentences are.bounds) (given_there kind p query asked) (both_there kind p query asked) in
     subst (IsWithin (length p.nodes)) (sym value) (constraint-within (length p.nodes) (combined p kind query d).terms (pos 1 -ℤ (combined p kind query d).base) below)

@@ -21,7 +21,7 @@ use Rattle.ps_guess.specs.Trials.{IsFoundDual, IsFoundSide}
 use Rattle.ps_query.specs.Settled.{IsClosed}
 use Rattle.ps_guess.specs.declared.known.Known.{Known}
 use Rattle.ps_guess.specs.declared.known.Known.TheVariants.{Answered, Sides}
-use Rattle.ps_guess.specs.Known.{HasAnswer, IsLeftSide, KeepsKnown, KeepsSides, TakesBounds}
+use Rattle.ps_guess.specs.Known.{HasAnswer, IsLeftSide, KeepsKnown, KeepsSides, ShowsSides, TakesBounds}
 
 -- a bound that a run left has its certificates
 pub closed_side : (p : Parts) (kind : ClaimKind) (q : Query) (value : Rational) (m : Model) (d : Dual) → IsLeftSide p kind q (side.Bound value m d)
@@ -57,11 +57,26 @@ answer_or_sides None u known sides both = inr (sides (inl refl))
 answer_or_sides (Some a) None known sides both = inr (sides (inr refl))
 answer_or_sides (Some a) (Some b) known sides both = inl (both refl refl)
 
-pub keeps_sides : (lower upper l u : Option SideAnswer) (known : Known) → IfSome lower (λ a. l ≡ Some a) → IfSome upper (λ a. u ≡ Some a)
-    → HasAnswer known ⊎ (known ≡ Sides l u) → KeepsSides lower upper known
-keeps_sides lower upper l u (Answered part) a b is = tt
-keeps_sides lower upper l u (Sides x y) a b (inl h) = absurd h
-keeps_sides lower upper l u (Sides x y) a b (inr e) = subst (λ (k : Known). KeepsSides lower upper k) (sym e) (a, b)
+-- what holds of a side that is known holds of the one that was found before
+still : (P : SideAnswer → Type 0) (found o : Option SideAnswer) → IfSome found (λ a. o ≡ Some a) → IfSome o P → IfSome found P
+still P None o h k = tt
+still P (Some a) o h k = subst (λ (x : Option SideAnswer). IfSome x P) h k
+
+shows_still : (lower upper l u : Option SideAnswer) (answer : QueryAnswer) → IfSome lower (λ a. l ≡ Some a) → IfSome upper (λ a. u ≡ Some a)
+    → ShowsSides l u answer → ShowsSides lower upper answer
+shows_still lower upper l u (query.Bounds below lows above highs) h k shown = (still (λ a. below ≡ a) lower l h shown.0, still (λ a. above ≡ a) upper u k shown.1)
+shows_still lower upper l u (query.Impossible d) h k shown = tt
+shows_still lower upper l u (query.Open cause) h k shown = (still (λ a. ⊥) lower l h shown.0, still (λ a. ⊥) upper u k shown.1)
+
+-- what keeps the sides that are known keeps those that were found before
+pub keeps_still : (lower upper l u : Option SideAnswer) (known : Known) → IfSome lower (λ a. l ≡ Some a) → IfSome upper (λ a. u ≡ Some a)
+    → KeepsSides l u known → KeepsSides lower upper known
+keeps_still lower upper l u (Answered part) h k kept = shows_still lower upper l u part.answer h k kept
+keeps_still lower upper l u (Sides x y) h k kept = (still (λ a. x ≡ Some a) lower l h kept.0, still (λ a. y ≡ Some a) upper u k kept.1)
+
+-- evidence that is impossible needs no side
+pub shows_none : (lower upper : Option SideAnswer) (answer : QueryAnswer) (d : Dual) → answer ≡ query.Impossible d → ShowsSides lower upper answer
+shows_none lower upper answer d of = subst (λ (a : QueryAnswer). ShowsSides lower upper a) (sym of) tt
 
 kept_side : (o : Option SideAnswer) → IfSome o (λ a. o ≡ Some a)
 kept_side None = tt
@@ -70,18 +85,17 @@ kept_side (Some a) = refl
 pub keeps_same : (lower upper : Option SideAnswer) → KeepsSides lower upper (Sides lower upper)
 keeps_same lower upper = (kept_side lower, kept_side upper)
 
+-- sides that are known as they were found are kept
+pub keeps_these : (lower upper : Option SideAnswer) (known : Known) → known ≡ Sides lower upper → KeepsSides lower upper known
+keeps_these lower upper known is = subst (λ (k : Known). KeepsSides lower upper k) (sym is) (keeps_same lower upper)
+
 pub keeps_known : (found : Known) → KeepsKnown found found
 keeps_known (Answered part) = tt
 keeps_known (Sides lower upper) = keeps_same lower upper
 
-still_kept : (found o known : Option SideAnswer) → IfSome found (λ a. o ≡ Some a) → IfSome o (λ a. known ≡ Some a) → IfSome found (λ a. known ≡ Some a)
-still_kept None o known h k = tt
-still_kept (Some a) o known h k = subst (λ (x : Option SideAnswer). IfSome x (λ a. known ≡ Some a)) h k
-
 pub keeps_on : (found : Known) (l u : Option SideAnswer) (known : Known) → KeepsKnown found (Sides l u) → KeepsSides l u known → KeepsKnown found known
 keeps_on (Answered part) l u known h k = absurd h
-keeps_on (Sides lower upper) l u (Answered part) h k = tt
-keeps_on (Sides lower upper) l u (Sides x y) h k = (still_kept lower l x h.0 k.0, still_kept upper u y h.1 k.1)
+keeps_on (Sides lower upper) l u known h k = keeps_still lower upper l u known h.0 h.1 k
 
 -- where a run left a bound, a side is known
 pub taken_side : (found : Option SideAnswer) (left : SideAnswer) (known : Option SideAnswer) → IfSome found (λ a. known ≡ Some a) → (found ≡ None → IsClosed left → known ≡ Some left)

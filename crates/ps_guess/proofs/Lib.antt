@@ -1,6 +1,7 @@
 mod Against
-mod KeptBounds
+mod KeptModels
 mod Logged
-pub mod Settled
 pub mod KnownLaws
 pub mod Right
+pub mod Settled
+pub mod Untold

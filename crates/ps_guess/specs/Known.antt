@@ -1,5 +1,5 @@
 -- What is known of a query, where time may be over before it is answered.
-use Rattle.std.specs.Prelude.{ℕ, ◌⊎◌, List, Option, Some, None, IfSome, IsSome, ◌≡◌}
+use Rattle.std.specs.Prelude.{ℕ, ◌+◌, ◌⊎◌, Bool, true, List, Option, Some, None, IfSome, IsSome, ◌≡◌, ◌≢◌}
 use Rattle.ps_problem.specs.declared.query.Query.{Query}
 use Rattle.ps_problem.specs.Problems.{Parts}
 use Rattle.ps_table.specs.declared.event.Event.{Event}
@@ -18,6 +18,7 @@ use Rattle.ps_claims.specs.Printed.{IsPrintedSide}
 use Rattle.ps_runs.specs.declared.limits.Limits.{Limits}
 use Rattle.ps_guess.specs.Trials.{IsFoundSide}
 use Rattle.ps_guess.specs.Turns.{limits_in}
+use Rattle.ps_guess.specs.declared.turns.TheConstants.{MOST_TURNS}
 use Rattle.ps_query.specs.Parts.{IsPartOf, IsVerdictOf}
 use Rattle.ps_query.specs.Settled.{IsClosed}
 use Rattle.ps_guess.specs.Solutions.{IsAnsweredPart}
@@ -66,10 +67,25 @@ HasAnswer (Sides lower upper) = ⊥
 abbrev pub KeepsSide : Option SideAnswer → Option SideAnswer → Type 0
 KeepsSide found side = IfSome found (λ a. side ≡ Some a)
 
--- no side that was found before is lost: the answer is known, or each of these sides still is
+-- a side that was found is the one that is answered
+abbrev pub ShowsSide : Option SideAnswer → SideAnswer → Type 0
+ShowsSide found side = IfSome found (λ a. side ≡ a)
+
+-- each side that was found is the answer's: an open answer has none, and one by which the evidence is impossible needs none
+abbrev pub ShowsSides : Option SideAnswer → Option SideAnswer → QueryAnswer → Type 0
+ShowsSides lower upper (query.Bounds l les u ues) = ShowsSide lower l × ShowsSide upper u
+ShowsSides lower upper (query.Impossible d) = Unit {0}
+ShowsSides lower upper (query.Open cause) = IfSome lower (λ a. ⊥) × IfSome upper (λ a. ⊥)
+
+-- no side that was found before is lost: the answer shows each of these sides, or it is still known
 abbrev pub KeepsSides : Option SideAnswer → Option SideAnswer → Known → Type 0
-KeepsSides lower upper (Answered part) = Unit {0}
+KeepsSides lower upper (Answered part) = ShowsSides lower upper part.answer
 KeepsSides lower upper (Sides l u) = KeepsSide lower l × KeepsSide upper u
+
+-- of an answer to a query of which this was known before: it is the answer that was known, or shows each side that was found
+abbrev pub ShowsKnown : Known → QueryPart → Type 0
+ShowsKnown (Answered known) part = part ≡ known
+ShowsKnown (Sides lower upper) part = ShowsSides lower upper part.answer
 
 -- nothing that was known before is lost: an answer stays one, and of sides none is lost
 abbrev pub KeepsKnown : Known → Known → Type 0
@@ -104,3 +120,13 @@ pub record LeavesOpen (own : Limits) (p : Parts) : Type 0 where
 abbrev pub TakesVerdict : Limits → ℕ → Parts → Option (Verdict × List Event) → Type 0
 TakesVerdict limits turn p (Some found) = Unit {0}
 TakesVerdict limits turn p None = LeavesOpen (limits_in limits turn) p
+
+-- there is a verdict, or this is so
+abbrev pub IsFoundOr : {V : Type 0} → Bool → Option V → Type 0
+IsFoundOr so (Some found) = Unit {0}
+IsFoundOr so None = so ≡ true
+
+-- there is a verdict, or this is so, or a run within the limits of a turn left it open, which isn't the last turn
+abbrev pub IsRunOr : Bool → Limits → ℕ → Parts → Option (Verdict × List Event) → Type 0
+IsRunOr so limits turn p (Some found) = Unit {0}
+IsRunOr so limits turn p None = (so ≡ true) ⊎ ((turn + 1 ≢ MOST_TURNS) × LeavesOpen (limits_in limits turn) p)

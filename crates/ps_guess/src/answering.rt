@@ -8,6 +8,7 @@ ghost use Rattle.ps_generation.specs.Phases.{AreLimits};
 ghost use Rattle.ps_query.specs.Solutions.{AreShortLines, IsReadBack};
 ghost use Rattle.ps_guess.specs.Solutions.{AreAnsweredParts, IsAnsweredPart};
 ghost use Rattle.ps_guess.specs.Solutions.{IsAnsweredVerdict, IsSettledSolution};
+ghost use Rattle.ps_guess.specs.Known.{ShowsSides};
 
 use crate::beside::beside_run;
 use crate::found_parts::{found_part, found_verdict};
@@ -51,7 +52,8 @@ pub fn last_verdict(
     verdict_part(alloc, trials.problem(), limits)
 }
 
-/// The answer to a query by a run, with the sides that were found in place of the run's.
+/// The answer to a query by a run, with the sides that were found in place of the run's: none of
+/// them is lost.
 pub fn run_beside(
     alloc: Global,
     trials: &Trials<'_>,
@@ -64,7 +66,8 @@ pub fn run_beside(
     requires limits { AreLimits limits }
     requires lower { IfSome lower (IsFoundSide trials.now Lower query) }
     requires upper { IfSome upper (IsFoundSide trials.now Upper query) }
-    ensures { IfOk result (IsAnsweredPart limits trials.now query) }
+    ensures answered { IfOk result (IsAnsweredPart limits trials.now query) }
+    ensures shown { IfOk result (λ part. ShowsSides lower upper part.answer) }
 {
     let run = query_part(alloc, trials.problem(), query, limits)?;
     Ok(beside_run(alloc, run, lower, upper))
@@ -138,7 +141,7 @@ pub fn answer<G: Guesser>(
     ensures read_back { IfOk result (IsReadBack limits) }
 {
     // Called for its clauses: the problem is within the limits, and its numbers are in range.
-    let _sound = problem.bound_list();
+    let _sound = problem.rows();
     let trials = Trials::new(alloc, problem, limits.conflicts)?;
     let (verdict, first) = answer_verdict(alloc, &trials, limits, guesser)?;
     let parts = parts_under(alloc, &trials, &verdict, limits, guesser)?;

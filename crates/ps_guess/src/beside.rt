@@ -1,4 +1,7 @@
 //! Sides that were found, beside a run of their query.
+ghost use Rattle.std.specs.Prelude.{◌≡◌, Some};
+ghost use Rattle.ps_guess.specs.Known.{ShowsSide, ShowsSides};
+ghost use Rattle.ps_answer.specs.declared.answer.QueryAnswer.TheVariants as answers;
 ghost use Rattle.ps_guess.specs.Solutions.{IsAnsweredBeside, IsAnsweredByBoth};
 ghost use Rattle.ps_guess.specs.Solutions.{IsAnsweredByDual, IsFoundOrLeft, open_part};
 
@@ -15,7 +18,8 @@ fn found_or(
     left: SideAnswer,
     events: Trace,
 ) -> (SideAnswer, Trace)
-    ensures { IsFoundOrLeft found left events result.0 result.1 }
+    ensures answered { IsFoundOrLeft found left events result.0 result.1 }
+    ensures shown { ShowsSide found result.0 }
 {
     match found {
         Some(side) => (side, List::new(alloc)),
@@ -26,7 +30,8 @@ fn found_or(
 /// The answer to a query whose evidence a dual was found to exclude.
 #[tactic(auto, using(crate::proofs::Settled::found_impossible))]
 pub fn found_impossible(alloc: Global, dual: Dual) -> QueryPart
-    ensures { IsAnsweredByDual dual result }
+    ensures answered { IsAnsweredByDual dual result }
+    ensures excluded { result.answer ≡ answers.Impossible dual }
 {
     QueryPart {
         answer: QueryAnswer::Impossible(dual),
@@ -37,7 +42,8 @@ pub fn found_impossible(alloc: Global, dual: Dual) -> QueryPart
 /// The answer to a query whose sides were both found.
 #[tactic(auto, using(crate::proofs::Settled::found_bounds))]
 pub fn both_found(alloc: Global, lower: SideAnswer, upper: SideAnswer) -> QueryPart
-    ensures { IsAnsweredByBoth lower upper result }
+    ensures answered { IsAnsweredByBoth lower upper result }
+    ensures shown { ShowsSides (Some lower) (Some upper) result.answer }
 {
     QueryPart {
         answer: QueryAnswer::Bounds {
@@ -60,7 +66,8 @@ fn beside_open(
     lower: Option<SideAnswer>,
     upper: Option<SideAnswer>,
 ) -> QueryPart
-    ensures { IsAnsweredBeside (open_part cause first) lower upper result }
+    ensures answered { IsAnsweredBeside (open_part cause first) lower upper result }
+    ensures shown { ShowsSides lower upper result.answer }
 {
     match (lower, upper) {
         (Some(lower), None) => QueryPart {
@@ -81,7 +88,8 @@ fn beside_open(
             },
             first,
         },
-        _ => QueryPart {
+        (Some(lower), Some(upper)) => both_found(alloc, lower, upper),
+        (None, None) => QueryPart {
             answer: QueryAnswer::Open(cause),
             first,
         },
@@ -96,7 +104,8 @@ pub fn beside_run(
     lower: Option<SideAnswer>,
     upper: Option<SideAnswer>,
 ) -> QueryPart
-    ensures { IsAnsweredBeside run lower upper result }
+    ensures answered { IsAnsweredBeside run lower upper result }
+    ensures shown { ShowsSides lower upper result.answer }
 {
     let QueryPart { answer, first } = run;
     match answer {

@@ -25,6 +25,7 @@ pub fn known_by(alloc: Global, lower: Option<SideAnswer>, upper: Option<SideAnsw
     ensures known { IsKnownBySides lower upper result }
     ensures sides { lower ≡ None ⊎ upper ≡ None → result ≡ Known.Sides lower upper }
     ensures both { IsSome lower → IsSome upper → HasAnswer result }
+    ensures kept { KeepsSides lower upper result }
 {
     let Some(least) = lower else {
         return Known::Sides { lower: None, upper };

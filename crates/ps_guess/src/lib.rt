@@ -10,7 +10,6 @@ mod by_turns;
 mod found;
 mod found_parts;
 mod in_time;
-mod kept;
 mod known;
 mod limits;
 mod model;

@@ -3,13 +3,13 @@ ghost use Rattle.std.specs.Prelude.{IfOk};
 ghost use Rattle.ps_runs.specs.Kept.{IsChoice, kept_parts};
 ghost use Rattle.ps_guess.specs.Trials.{IsFoundModel, IsTrialOf};
 
-use crate::kept::kept_bounds;
 use crate::limits::is_small_model;
 use crate::trial::Trial;
 use crate::trials::Trials;
 use ps_answer::Model;
 use ps_claims::Reason;
 use ps_io::NoMemory;
+use ps_runs::kept_rows;
 use ps_valid::{check_model, check_model_over};
 use std::alloc::Global;
 
@@ -29,7 +29,7 @@ impl<'p> Trials<'p> {
 
     /// Whether the guess is a distribution that meets each bound of the kept sentences, by a truth
     /// value for each sentence, of at most one world more than these have bounds.
-    #[tactic(auto, using(crate::proofs::KeptBounds::kept_sound, crate::proofs::KeptBounds::kept_few, crate::proofs::KeptBounds::kept_model))]
+    #[tactic(auto, using(crate::proofs::KeptModels::kept_sound, crate::proofs::KeptModels::kept_few))]
     pub fn model_of(
         &self,
         alloc: Global,
@@ -43,8 +43,8 @@ impl<'p> Trials<'p> {
             return Ok(Trial::Wrong(Reason::TotalWrong));
         }
         let problem = self.problem();
-        let bounds = kept_bounds(alloc, problem, kept)?;
-        match check_model_over(alloc, problem, bounds.as_slice(), &model)? {
+        let rows = kept_rows(alloc, problem, kept)?;
+        match check_model_over(alloc, problem, rows.as_slice(), &model)? {
             Some(reason) => Ok(Trial::Wrong(reason)),
             None => Ok(Trial::Shown(model)),
         }

@@ -88,7 +88,7 @@ impl<'p> Trials<'p> {
         ensures parts { AreParts self.now }
     {
         // Called for its clauses: the problem is within the limits, and its numbers are in range.
-        let _sound = self.problem.bound_list();
+        let _sound = self.problem.rows();
         self.problem
     }
 

@@ -1,6 +1,7 @@
 //! The verdict on a problem by turns, as far as time is left.
 ghost use Rattle.std.specs.Prelude.{◌<◌, IfOk, IfSome};
 ghost use Rattle.ps_generation.specs.Phases.{AreLimits};
+ghost use Rattle.ps_guess.specs.Known.{IsFoundOr, IsRunOr};
 ghost use Rattle.ps_guess.specs.Solutions.{IsAnsweredVerdict, IsFoundVerdict};
 ghost use Rattle.ps_guess.specs.declared.turns.TheConstants.{MOST_TURNS};
 
@@ -42,6 +43,7 @@ fn guess_verdict<G: Guesser, W: Watch>(
 }
 
 // The verdict of one turn: found, or run where time is left for it.
+#[tactic(auto, using(crate::proofs::Untold::refused_there, crate::proofs::Untold::run_or))]
 fn turn_of_verdict<G: Guesser, W: Watch>(
     alloc: Global,
     trials: &Trials<'_>,
@@ -52,7 +54,9 @@ fn turn_of_verdict<G: Guesser, W: Watch>(
 ) -> Result<Option<(Verdict, Trace)>, NoMemory>
     requires limits { AreLimits limits }
     requires few { turn < MOST_TURNS }
-    ensures { IfOk result (λ o. IfSome o (λ r. IsAnsweredVerdict limits trials.now r.0 r.1)) }
+    ensures told { IfOk result (λ o. IfSome o (λ r. IsAnsweredVerdict limits trials.now r.0 r.1)) }
+    ensures untold { IfOk result
+        (IsRunOr (W.has_refused timed.new.watch.now) limits turn trials.now) }
 {
     if may_guess {
         if let Some(found) = guess_verdict(alloc, trials, limits, turn, timed)? {
@@ -66,8 +70,9 @@ fn turn_of_verdict<G: Guesser, W: Watch>(
 }
 
 /// The verdict on a problem by turns of guesses and runs, each turn twice as long as the one before;
-/// none where time was over before. A run begins with small limits, and is begun again with greater
-/// ones as long as it is open and time is left.
+/// none where the watch said before that time is over, or that a run has no room. A run begins with small
+/// limits, and is begun again with greater ones as long as it is open and time is left.
+#[tactic(auto, using(crate::proofs::Untold::last_refused))]
 pub fn verdict_in_time<G: Guesser, W: Watch>(
     alloc: Global,
     trials: &Trials<'_>,
@@ -75,7 +80,8 @@ pub fn verdict_in_time<G: Guesser, W: Watch>(
     timed: &mut InTime<'_, G, W>,
 ) -> Result<Option<(Verdict, Trace)>, NoMemory>
     requires limits { AreLimits limits }
-    ensures { IfOk result (λ o. IfSome o (λ r. IsAnsweredVerdict limits trials.now r.0 r.1)) }
+    ensures told { IfOk result (λ o. IfSome o (λ r. IsAnsweredVerdict limits trials.now r.0 r.1)) }
+    ensures untold { IfOk result (IsFoundOr (W.has_refused timed.new.watch.now)) }
 {
     let mut may_guess = true;
     for turn in 0..MOST_TURNS {

@@ -20,7 +20,13 @@ IsAtHead k = (k ≡ kind.Expected what.Psat) ⊎ (k ≡ kind.Expected what.Versi
 
 -- the front of a sentence or of a query is expected
 abbrev pub IsAtItem : ReadKind → Type 0
-IsAtItem k = (k ≡ kind.Expected what.Item) ⊎ (k ≡ kind.Expected what.Prob)
+IsAtItem k = (k ≡ kind.Expected what.Item) ⊎ (k ≡ kind.Expected what.Item2) ⊎ (k ≡ kind.Expected what.Term)
+    ⊎ (k ≡ kind.Expected what.Prob)
+
+-- a sign stands where none is expected; in version 1 `+` and `-` are no signs
+abbrev pub IsAtSign : ReadKind → Type 0
+IsAtSign k = (k ≡ kind.BadByte) ⊎ (k ≡ kind.Expected what.Operator) ⊎ (k ≡ kind.Expected what.Formula)
+    ⊎ (k ≡ kind.Expected what.Relation) ⊎ (k ≡ kind.Expected what.Number) ⊎ (k ≡ kind.Expected what.Semicolon)
 
 -- the hint says what to do about a refusal of the kind
 abbrev pub IsHintFor : Hint → ReadKind → Type 0
@@ -35,20 +41,32 @@ IsHintFor hint.PointLast k = k ≡ kind.BadByte
 IsHintFor hint.DecimalComma k = IsAtNumber k ⊎ (k ≡ kind.NumberOutOfRange)
 IsHintFor hint.Exponent k = IsAtNumber k
 IsHintFor hint.BlankFraction k = k ≡ kind.BadByte
-IsHintFor hint.Negative k = k ≡ kind.BadByte
+IsHintFor hint.Negative k = IsAtSign k
 IsHintFor hint.AboveOne k = k ≡ kind.NumberOutOfRange
 IsHintFor hint.Frequency k = (k ≡ kind.NumberOutOfRange) ⊎ (k ≡ kind.Expected what.Semicolon)
-IsHintFor hint.Arithmetic k = k ≡ kind.BadByte
+IsHintFor hint.Arithmetic k = IsAtSign k
 IsHintFor hint.Grouped k = IsAtNumber k ⊎ (k ≡ kind.BadByte)
-IsHintFor hint.Margin k = k ≡ kind.BadByte
+IsHintFor hint.Margin k = IsAtSign k
 IsHintFor hint.Round k = (k ≡ kind.DenominatorTooLarge) ⊎ (k ≡ kind.TooManyDecimals)
 IsHintFor hint.Number k = k ≡ kind.Expected what.Number
-IsHintFor hint.Interval k = IsInInterval k ⊎ (k ≡ kind.BadByte)
+IsHintFor hint.Interval k = IsInInterval k ⊎ IsAtSign k
 IsHintFor hint.Between k = IsAtItem k ⊎ (k ≡ kind.Expected what.Semicolon)
 IsHintFor hint.Equals k = k ≡ kind.BadByte
 IsHintFor hint.AtMostSign k = k ≡ kind.BadByte
 IsHintFor hint.AtLeastSign k = k ≡ kind.BadByte
-IsHintFor hint.Linear k = IsAtItem k ⊎ (k ≡ kind.BadByte)
+IsHintFor (hint.Sum v) k = IsAtItem k ⊎ IsAtSign k
+IsHintFor (hint.Compare v) k = k ≡ kind.Expected what.Number
+IsHintFor (hint.CompareTimes v) k = (k ≡ kind.NumberOutOfRange) ⊎ (k ≡ kind.BadByte) ⊎ (k ≡ kind.Expected what.Semicolon)
+IsHintFor (hint.LeftSide v) k = IsAtSign k
+IsHintFor hint.Times k = k ≡ kind.BadByte
+IsHintFor hint.Product k = k ≡ kind.BadByte
+IsHintFor hint.Quotient k = k ≡ kind.BadByte
+IsHintFor (hint.GivenInSum v) k = IsAtSign k
+IsHintFor hint.QuerySum k = IsAtItem k ⊎ IsAtSign k
+IsHintFor hint.NumberAlone k = IsAtItem k
+IsHintFor hint.OneSign k = IsAtItem k
+IsHintFor hint.Term k = IsAtItem k
+IsHintFor hint.Divide k = k ≡ kind.NumberOutOfRange
 IsHintFor hint.QueryValue k = k ≡ kind.Expected what.Semicolon
 IsHintFor hint.Ask k = k ≡ kind.BadByte
 IsHintFor hint.AtMost k = k ≡ kind.BadByte
@@ -59,9 +77,9 @@ IsHintFor hint.Outside k = k ≡ kind.Expected what.Relation
 IsHintFor hint.Not k = (k ≡ kind.BadByte) ⊎ (k ≡ kind.Expected what.Operator)
 IsHintFor hint.And k = (k ≡ kind.BadByte) ⊎ (k ≡ kind.Expected what.Operator)
 IsHintFor hint.OneAnd k = k ≡ kind.Expected what.Formula
-IsHintFor hint.Or k = (k ≡ kind.BadByte) ⊎ (k ≡ kind.Expected what.Operator)
+IsHintFor hint.Or k = IsAtSign k
 IsHintFor hint.OneOr k = k ≡ kind.Expected what.Formula
-IsHintFor hint.Implies k = (k ≡ kind.BadByte) ⊎ (k ≡ kind.Expected what.Operator)
+IsHintFor hint.Implies k = IsAtSign k
 IsHintFor hint.Xor k = (k ≡ kind.BadByte) ⊎ (k ≡ kind.Expected what.Operator)
 IsHintFor hint.Equated k = k ≡ kind.Expected what.Operator
 IsHintFor hint.Iff k = (k ≡ kind.BadByte) ⊎ (k ≡ kind.Expected what.Operator)
@@ -77,7 +95,7 @@ IsHintFor hint.Operand k = k ≡ kind.Expected what.Formula
 IsHintFor hint.Reserved k = k ≡ kind.Expected what.Formula
 IsHintFor hint.DigitFirst k = (k ≡ kind.BadByte) ⊎ (k ≡ kind.Expected what.Formula)
 IsHintFor hint.Truth k = k ≡ kind.Expected what.Formula
-IsHintFor hint.Hyphen k = k ≡ kind.BadByte
+IsHintFor hint.Hyphen k = IsAtSign k
 IsHintFor hint.Letters k = k ≡ kind.BadByte
 IsHintFor hint.Blank k = k ≡ kind.BadByte
 IsHintFor hint.Unseen k = k ≡ kind.BadByte
@@ -87,7 +105,7 @@ IsHintFor hint.Wide k = (k ≡ kind.BadByte) ⊎ IsAtHead k
 IsHintFor hint.LoneReturn k = k ≡ kind.EndMissing
 IsHintFor hint.Quote k = k ≡ kind.BadByte
 IsHintFor hint.Short k = k ≡ kind.NameTooLong
-IsHintFor hint.Comment k = (k ≡ kind.BadByte) ⊎ IsAtItem k
+IsHintFor hint.Comment k = IsAtSign k ⊎ IsAtItem k
 IsHintFor hint.Probability k = IsAtItem k ⊎ (k ≡ kind.Expected what.Paren)
 IsHintFor hint.SmallLetters k = IsAtHead k ⊎ IsAtItem k ⊎ (k ≡ kind.Expected what.Operator)
 IsHintFor hint.Item k = IsAtItem k
@@ -98,7 +116,10 @@ IsHintFor hint.Atoms k = k ≡ kind.TooManyAtoms
 IsHintFor hint.Formulas k = k ≡ kind.TooManyNodes
 IsHintFor hint.Bounds k = k ≡ kind.TooManyBounds
 IsHintFor hint.Queries k = k ≡ kind.TooManyQueries
+IsHintFor hint.Terms k = k ≡ kind.TooManyTerms
+IsHintFor hint.Large k = k ≡ kind.LinearTooLarge
 
 -- a count is refused, and no token
 abbrev pub IsCount : ReadKind → Type 0
-IsCount k = (k ≡ kind.TooManyAtoms) ⊎ (k ≡ kind.TooManyNodes) ⊎ (k ≡ kind.TooManyBounds) ⊎ (k ≡ kind.TooManyQueries)
+IsCount k = (k ≡ kind.TooManyAtoms) ⊎ (k ≡ kind.TooManyNodes) ⊎ (k ≡ kind.TooManyBounds)
+    ⊎ (k ≡ kind.TooManyQueries) ⊎ (k ≡ kind.LinearTooLarge)

@@ -6,18 +6,9 @@ ghost use Rattle.ps_text.specs.declared.kind.ReadKind.TheVariants as kind;
 use crate::hint::Hint;
 use crate::items::Item;
 use crate::letter_hints::letter_hint;
+use crate::sign_hints::{is_digit, minus_hint, plus_hint};
 use crate::spot::Spot;
-use crate::words::is_word_byte;
-
-// Whether a byte is a digit.
-fn is_digit(byte: Option<u8>) -> bool {
-    matches!(byte, Some(b) if b.is_ascii_digit())
-}
-
-// Whether a byte may stand in a name.
-fn is_of_name(byte: Option<u8>) -> bool {
-    matches!(byte, Some(b) if is_word_byte(b))
-}
+use crate::sum_hints::times_hint;
 
 // Whether the number behind which the spot is has its point, as `0.3` and not as `3`.
 fn is_behind_decimal(spot: &Spot) -> bool {
@@ -46,30 +37,6 @@ fn point(spot: &Spot) -> Hint
     }
 }
 
-// A hint for a minus or a dash, with the byte behind it.
-fn minus(spot: &Spot, behind: Option<u8>) -> Hint
-    ensures { IsHintFor result kind.BadByte }
-{
-    let item = Item::before(spot);
-    if behind == Some(b'>') || spot.begins("-->") {
-        Hint::Implies
-    } else if spot.begins("--") {
-        Hint::Comment
-    } else if item.is_in_interval() {
-        Hint::Interval
-    } else if is_of_name(behind) && is_of_name(spot.last()) && item.is_in_formula() {
-        Hint::Hyphen
-    } else if item.is_in_formula() {
-        Hint::Negative
-    } else if spot.byte_before() == Some(b')') {
-        Hint::Linear
-    } else if is_digit(spot.byte_before()) {
-        Hint::Arithmetic
-    } else {
-        Hint::Negative
-    }
-}
-
 // A hint for a slash.
 fn slash(spot: &Spot) -> Hint
     ensures { IsHintFor result kind.BadByte }
@@ -77,24 +44,8 @@ fn slash(spot: &Spot) -> Hint
     match spot.second() {
         Some(b'\\') => Hint::And,
         Some(b'/' | b'*') => Hint::Comment,
-        _ if spot.byte_before() == Some(b')') => Hint::Linear,
+        _ if spot.byte_before() == Some(b')') => Hint::Quotient,
         _ => Hint::BlankFraction,
-    }
-}
-
-// A hint for a plus or a `*`, which is for this in a formula.
-fn plus_or_times(spot: &Spot, in_formula: Hint) -> Hint
-    requires { IsHintFor in_formula kind.BadByte }
-    ensures { IsHintFor result kind.BadByte }
-{
-    if spot.begins_any(&["+-", "+/-"]) {
-        Hint::Margin
-    } else if Item::before(spot).is_in_formula() {
-        in_formula
-    } else if is_digit(spot.byte_before()) {
-        Hint::Arithmetic
-    } else {
-        Hint::Linear
     }
 }
 
@@ -159,11 +110,11 @@ fn byte_by_itself(spot: &Spot, byte: u8) -> Option<Hint>
         b'%' => Some(percent(spot)),
         b'.' => Some(point(spot)),
         b'<' | b'>' => Some(comparison(spot)),
-        b'-' => Some(minus(spot, spot.second())),
+        b'-' => Some(minus_hint(spot, spot.behind.get(1..).unwrap_or(&[]))),
         b'/' => Some(slash(spot)),
         b'\\' => Some(Hint::Or),
-        b'+' => Some(plus_or_times(spot, Hint::Or)),
-        b'*' => Some(plus_or_times(spot, Hint::And)),
+        b'+' => Some(plus_hint(spot)),
+        b'*' => Some(times_hint(spot, spot.rest_behind(1))),
         b':' => Some(colon(spot)),
         b'?' => Some(Hint::Ask),
         b'_' => Some(underscore(spot)),
@@ -194,10 +145,13 @@ fn mark_hint(spot: &Spot) -> Option<Hint>
 fn character_hint(spot: &Spot, c: char) -> Option<Hint>
     ensures { IfSome result (λ h. IsHintFor h kind.BadByte) }
 {
-    if matches!(c, '−' | '–' | '—' | '‐' | '‑' | '－') {
-        return Some(minus(spot, spot.behind.get(c.len_utf8()).copied()));
+    let behind = spot.behind.get(c.len_utf8()..).unwrap_or(&[]);
+    match c {
+        '−' | '–' | '—' | '‐' | '‑' | '－' => Some(minus_hint(spot, behind)),
+        '×' | '·' => Some(times_hint(spot, behind)),
+        '÷' => Some(slash(spot)),
+        _ => letter_hint(c),
     }
-    letter_hint(c)
 }
 
 // A hint for what stands here by itself.

@@ -10,6 +10,7 @@ use crate::item_hints::{begin_hint, item_hint, semicolon_hint};
 use crate::number_hints::{interval_hint, number_hint, relation_hint, value_hint};
 use crate::place::end_of_tokens;
 use crate::spot::Spot;
+use crate::sum_hints::{prob_hint, term_hint};
 use ps_read::{ReadKind, What};
 
 // A hint where a token or a formula is expected.
@@ -19,7 +20,9 @@ fn expected_hint(what: What, spot: &Spot) -> Hint
     match what {
         What::Psat | What::Version => begin_hint(spot),
         What::Semicolon => semicolon_hint(spot),
-        What::Item | What::Prob => item_hint(spot),
+        What::Item | What::Item2 => item_hint(spot),
+        What::Term => term_hint(spot),
+        What::Prob => prob_hint(spot),
         What::Paren => Hint::Probability,
         What::Formula => operand_hint(spot),
         What::Operator => operator_hint(spot),
@@ -67,6 +70,8 @@ fn kind_hint(kind: ReadKind) -> Option<Hint>
         ReadKind::TooManyNodes => Some(Hint::Formulas),
         ReadKind::TooManyBounds => Some(Hint::Bounds),
         ReadKind::TooManyQueries => Some(Hint::Queries),
+        ReadKind::TooManyTerms => Some(Hint::Terms),
+        ReadKind::LinearTooLarge => Some(Hint::Large),
         ReadKind::MoreAfterEnd => Some(Hint::BehindEnd),
         _ => None,
     }

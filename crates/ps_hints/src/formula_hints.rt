@@ -6,7 +6,9 @@ ghost use Rattle.ps_text.specs.declared.kind.What.TheVariants as what;
 
 use crate::found::number_at_front;
 use crate::hint::Hint;
+use crate::items::{Item, version_of};
 use crate::mistypes::is_mistyped;
+use crate::sign_hints::sign_hint;
 use crate::spot::Spot;
 use crate::words::{
     NOT, is_any, is_reserved, is_reserved_in_other_letters, is_word_byte, word_at_front,
@@ -41,7 +43,11 @@ fn operator_word(spot: &Spot) -> Option<Hint>
     } else if is_any(spot.word_before(), &["if", "If", "IF"]) {
         Some(Hint::Implies)
     } else if is_any(word, &["given"]) {
-        Some(Hint::OneGiven)
+        Some(if Item::before(spot).is_sum() {
+            Hint::GivenInSum(version_of(spot.before))
+        } else {
+            Hint::OneGiven
+        })
     } else if is_reserved_in_other_letters(word) {
         Some(Hint::SmallLetters)
     } else if is_mistyped(word, "given") || is_any(word, &["if", "when", "assuming"]) {
@@ -73,7 +79,9 @@ fn equation_hint(spot: &Spot) -> Hint
 fn operator_sign(spot: &Spot) -> Hint
     ensures { IsHintFor result (kind.Expected what.Operator) }
 {
-    if spot.begins_any(&["=>", "==>"]) {
+    if spot.begins_sign() {
+        sign_hint(spot)
+    } else if spot.begins_any(&["=>", "==>"]) {
         Hint::Implies
     } else if spot.begins_any(&["==", "<=>"]) {
         Hint::Iff
@@ -112,6 +120,8 @@ pub(crate) fn operand_hint(spot: &Spot) -> Hint
         Hint::OneAnd
     } else if spot.follows("|") && spot.begins("|") {
         Hint::OneOr
+    } else if spot.begins_sign() {
+        sign_hint(spot)
     } else if is_truth_digit(word) {
         Hint::Truth
     } else if matches!(spot.first(), Some(byte) if byte.is_ascii_digit()) {

@@ -1,6 +1,8 @@
 //! Hints: what to write instead.
 ghost use Rattle.std.specs.Prelude.{◌<◌, length};
 
+use ps_text::Version;
+
 /// A hint for an error that people really make.
 #[derive(Clone, Copy)]
 pub enum Hint {
@@ -52,8 +54,32 @@ pub enum Hint {
     AtMostSign,
     /// `≥`.
     AtLeastSign,
-    /// `2 * P(a)`, or a sum of probabilities.
-    Linear,
+    /// `P(a) + P(b)` or `2 P(a)`, in a text of this version.
+    Sum(Version),
+    /// `P(a) >= P(b)`.
+    Compare(Version),
+    /// `P(a) >= 2 * P(b)`.
+    CompareTimes(Version),
+    /// `P(a) >= 1 - P(b)`.
+    LeftSide(Version),
+    /// `2 * P(a)` in a linear sentence.
+    Times,
+    /// `P(a) * P(b)`.
+    Product,
+    /// `P(a & b) / P(b)`.
+    Quotient,
+    /// `given` in a linear sentence.
+    GivenInSum(Version),
+    /// `query P(a) + P(b)`.
+    QuerySum,
+    /// `P(a) - 1/2 >= 0`.
+    NumberAlone,
+    /// Two signs before a term.
+    OneSign,
+    /// A sign, or a number, without a probability behind it.
+    Term,
+    /// A number of a linear sentence that is too great.
+    Divide,
     /// `query P(a) = 0.3`.
     QueryValue,
     /// `P(a) = ?`.
@@ -152,6 +178,64 @@ pub enum Hint {
     Bounds,
     /// Too many queries.
     Queries,
+    /// Too many terms.
+    Terms,
+    /// Whole numbers of a linear sentence that are too large.
+    Large,
+}
+
+// What to write for a sum.
+fn sum_text(version: Version) -> &'static str
+    ensures { 0 < length result.now }
+{
+    match version {
+        Version::One =>
+            "begin the text with psat 2; for sums: P(a) + P(b) <= 1, or 2 P(a) - 1/3 P(b) >= 1/2",
+        Version::Two => "write sums so: P(a) + P(b) <= 1, or 2 P(a) - 1/3 P(b) >= 1/2",
+    }
+}
+
+// What to write for a comparison of two probabilities.
+fn compare_text(version: Version) -> &'static str
+    ensures { 0 < length result.now }
+{
+    match version {
+        Version::One => "begin the text with psat 2; and write P(a) - P(b) >= 0 for P(a) >= P(b)",
+        Version::Two => "write P(a) - P(b) >= 0 for P(a) >= P(b)",
+    }
+}
+
+// What to write for a comparison with a multiple.
+fn compare_times_text(version: Version) -> &'static str
+    ensures { 0 < length result.now }
+{
+    match version {
+        Version::One =>
+            "begin the text with psat 2; and write P(a) - 2 P(b) >= 0 for P(a) >= 2 * P(b)",
+        Version::Two => "write P(a) - 2 P(b) >= 0 for P(a) >= 2 * P(b)",
+    }
+}
+
+// What to write for a comparison with a sum.
+fn left_side_text(version: Version) -> &'static str
+    ensures { 0 < length result.now }
+{
+    match version {
+        Version::One =>
+            "begin the text with psat 2; and write P(a) + P(b) >= 1 for P(a) >= 1 - P(b)",
+        Version::Two => "write P(a) + P(b) >= 1 for P(a) >= 1 - P(b)",
+    }
+}
+
+// What to write for a comparison of two probabilities with the same condition.
+fn given_in_sum_text(version: Version) -> &'static str
+    ensures { 0 < length result.now }
+{
+    match version {
+        Version::One =>
+            "begin the text with psat 2; and write P(a & c) - P(b & c) >= 0, with no given",
+        Version::Two => "in a sum write P(a & c) - P(b & c) >= 0 for P(a given c) >= P(b given c)",
+    }
 }
 
 impl Hint {
@@ -163,7 +247,7 @@ impl Hint {
             Hint::Empty => "the text is empty: a problem begins with psat 1; and ends with end;",
             Hint::ByteOrderMark =>
                 "a byte-order mark stands at the front: save the file without it",
-            Hint::Begin => "a problem begins with psat 1;",
+            Hint::Begin => "a problem begins with psat 1; or psat 2;",
             Hint::End => "a problem ends with end;",
             Hint::BehindEnd => "nothing but comments may stand behind end;",
             Hint::Percent => "write 0.3 or 30/100 for 30%",
@@ -186,8 +270,20 @@ impl Hint {
             Hint::Equals => "write = and the value: P(a) = 0.3",
             Hint::AtMostSign => "write <= for \"at most\"",
             Hint::AtLeastSign => "write >= for \"at least\"",
-            Hint::Linear =>
-                "a sentence bounds one P(..), no sum: write P(a) <= 1/2 for 2 * P(a) <= 1",
+            Hint::Sum(version) => sum_text(version),
+            Hint::Compare(version) => compare_text(version),
+            Hint::CompareTimes(version) => compare_times_text(version),
+            Hint::LeftSide(version) => left_side_text(version),
+            Hint::Times => "write 2 P(a) for 2 * P(a)",
+            Hint::Product => "probabilities aren't multiplied: P(a & b) is the probability of both",
+            Hint::Quotient => "write P(a given b) for P(a & b) / P(b), and 1/2 P(a) for P(a) / 2",
+            Hint::GivenInSum(version) => given_in_sum_text(version),
+            Hint::QuerySum => "a query asks for one P(..): ask for each by itself",
+            Hint::NumberAlone =>
+                "a number without P(..) stands behind the relation: P(a) - P(b) >= 1/2",
+            Hint::OneSign => "one sign stands before a term",
+            Hint::Term => "write P(..) here, perhaps with a number before it: 2 P(a) or 1/3 P(a)",
+            Hint::Divide => "divide all numbers of the sentence by the same number",
             Hint::QueryValue => "a query states no value: write query P(a); or leave out query",
             Hint::Ask => "to ask, write query P(a);",
             Hint::AtMost => "write <= for \"at most\": no bound is strict",
@@ -241,6 +337,9 @@ impl Hint {
             Hint::Formulas => "write a formula the same way each time",
             Hint::Bounds => "join laws by & in one sentence; an interval counts as two bounds",
             Hint::Queries => "ask in several files",
+            Hint::Terms => "where a and b exclude each other, write P(a | b) for P(a) + P(b)",
+            Hint::Large =>
+                "round them: over a denominator of at most 1000000 they sum to at most 2000000",
         }
     }
 }

@@ -7,10 +7,12 @@ ghost use Rattle.ps_text.specs.declared.kind.What.TheVariants as what;
 
 use crate::found::number_at_front;
 use crate::hint::Hint;
-use crate::items::Item;
+use crate::items::{Item, version_of};
 use crate::mistypes::is_mistyped;
 use crate::number_hints::behind_number;
+use crate::sign_hints::{is_digit, sign_hint};
 use crate::spot::Spot;
+use crate::sum_hints::begins_term;
 use crate::words::{is_any, is_reserved_in_other_letters, is_word_byte};
 
 // A hint for a `;` where an item is expected.
@@ -23,27 +25,28 @@ fn semicolon_first(spot: &Spot) -> Hint
     }
 }
 
-// Whether the first word in some bytes begins as a probability does.
-fn begins_with_probability(bytes: &[u8]) -> bool {
+/// Whether the first word in some bytes begins as a probability does.
+pub(crate) fn begins_with_probability(bytes: &[u8]) -> bool {
     match bytes.iter().position(|byte| is_word_byte(*byte)) {
         Some(first) => bytes[first] == b'P',
         None => false,
     }
 }
 
-// A hint for what stands first, by what stands behind the number there.
-fn number_first(rest: &[u8]) -> Hint
+// A hint for a number that stands first, with what stands behind it.
+fn number_first(spot: &Spot, rest: &[u8]) -> Hint
     ensures { (k : ReadKind) → IsAtItem k → IsHintFor result k }
 {
     match rest {
-        [b'*' | b'P' | b'+' | b'-' | b'/', ..] => Hint::Linear,
+        [b'*' | b'P' | b'+' | b'-' | b'/', ..] if Item::before(spot).is_query() => Hint::QuerySum,
+        [b'*' | b'P' | b'+' | b'-' | b'/', ..] => Hint::Sum(version_of(spot.before)),
         [b'<' | b'>' | b'=' | 0x80.., ..] if begins_with_probability(rest) => Hint::Between,
         _ => Hint::Item,
     }
 }
 
-// A hint for a word where an item is expected.
-fn word_first(word: &[u8]) -> Option<Hint>
+/// A hint for a word where an item is expected.
+pub(crate) fn word_first(word: &[u8]) -> Option<Hint>
     ensures { IfSome result (λ h. (k : ReadKind) → IsAtItem k → IsHintFor h k) }
 {
     if is_any(word, &["Pr", "PR", "pr", "p", "Prob", "prob", "PROB"]) {
@@ -68,7 +71,7 @@ pub(crate) fn item_hint(spot: &Spot) -> Hint
     }
     let number = number_at_front(spot.behind);
     if !number.is_empty() {
-        number_first(spot.rest_behind(number.len()))
+        number_first(spot, spot.rest_behind(number.len()))
     } else if spot.begins(";") {
         semicolon_first(spot)
     } else {
@@ -98,14 +101,29 @@ fn is_number_again(spot: &Spot) -> bool {
     }
 }
 
+// Whether a `P` stands here behind a number of its line, and its item ends behind the next `)`.
+fn is_last_term(spot: &Spot) -> bool {
+    let behind = match spot.behind.iter().position(|byte| *byte == b')') {
+        Some(end) => spot.rest_behind(end.saturating_add(1)),
+        None => return false,
+    };
+    is_digit(spot.line_before().trim_ascii_end().last().copied())
+        && begins_term(spot.behind)
+        && behind.starts_with(b";")
+}
+
 // A hint for what stands where a `;` is expected.
 fn semicolon_missing(spot: &Spot) -> Hint
     ensures { IsHintFor result (kind.Expected what.Semicolon) }
 {
-    if spot.begins(")") {
+    if spot.begins_sign() {
+        sign_hint(spot)
+    } else if spot.begins(")") {
         Hint::Unopened
-    } else if spot.begins_any(&["=", "<=", ">="]) || is_any(spot.word(), &["in"]) {
+    } else if spot.begins_relation() {
         relation_again(spot)
+    } else if is_last_term(spot) {
+        Hint::CompareTimes(version_of(spot.before))
     } else if is_any(spot.word(), &["of", "out"]) {
         Hint::Frequency
     } else if is_number_again(spot) {

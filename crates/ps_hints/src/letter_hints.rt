@@ -19,7 +19,6 @@ fn printed_sign(c: char) -> Option<Hint>
         '≤' | '⩽' => Some(Hint::AtMostSign),
         '≥' | '⩾' => Some(Hint::AtLeastSign),
         '±' => Some(Hint::Margin),
-        '×' | '·' | '÷' => Some(Hint::Linear),
         '“' | '”' | '„' | '‘' | '’' | '«' | '»' => Some(Hint::Quote),
         _ => None,
     }

@@ -2,11 +2,12 @@
 ghost use Rattle.std.specs.Prelude.{◌≡◌, ◌<◌, ◌||◌, IfOk, false, length, map};
 ghost use Rattle.std.specs.Prelude.{slice_index_or, vec_len};
 ghost use Rattle.ps_formula.specs.Nodes.{AreNodes, Fits, trees};
-ghost use Rattle.ps_hints.specs.Warnings.{IsUnstated, TellsIn, TellsOver, has_atom};
+ghost use Rattle.ps_hints.specs.Warnings.{IsUnstated, TellsIn, TellsInBound, TellsInTerms};
+ghost use Rattle.ps_hints.specs.Warnings.{TellsOver, has_atom};
 
 use ps_formula::Node;
 use ps_io::NoMemory;
-use ps_problem::{Problem, Sentence};
+use ps_problem::{Bound, Problem, Sentence};
 use std::alloc::Global;
 
 // Whether the atom stands in one of two formulas.
@@ -59,18 +60,39 @@ fn is_marked(marks: &[bool], node: u32) -> bool
 }
 
 // Whether an atom stands in a sentence, where it is marked in which nodes it stands.
-#[tactic(auto, using(crate::proofs::Atoms::atom_at))]
 fn stands_in(sentence: &Sentence, marks: &[bool]) -> bool
     ensures { TellsIn marks.now sentence.now result }
 {
-    let first = sentence.first;
-    if is_marked(marks, first.formula) {
+    match sentence {
+        Sentence::Plain { first, .. } => stands_in_bound(first, marks),
+        Sentence::Linear(linear) => stands_in_terms(linear.terms.as_slice(), marks),
+    }
+}
+
+// Whether an atom stands in a bound's formula or condition.
+#[tactic(auto, using(crate::proofs::Atoms::atom_at))]
+fn stands_in_bound(bound: &Bound, marks: &[bool]) -> bool
+    ensures { TellsInBound marks.now bound.now result }
+{
+    if is_marked(marks, bound.formula) {
         return true;
     }
-    match first.given {
+    match bound.given {
         Some(given) => is_marked(marks, given),
         None => false,
     }
+}
+
+// Whether an atom stands in a formula of some terms.
+fn stands_in_terms(terms: &[(u32, i64)], marks: &[bool]) -> bool
+    ensures { TellsInTerms marks.now terms.now result }
+{
+    for term in terms {
+        if is_marked(marks, term.0) {
+            return true;
+        }
+    }
+    false
 }
 
 /// Whether an atom stands in a sentence.

@@ -7,7 +7,10 @@ ghost use Rattle.ps_text.specs.declared.kind.What.TheVariants as what;
 
 use crate::found::number_at_front;
 use crate::hint::Hint;
+use crate::items::{Item, version_of};
+use crate::sign_hints::sign_hint;
 use crate::spot::Spot;
+use crate::sum_hints::begins_term;
 use crate::words::{is_any, word_at_front};
 
 // Whether a digit stands right before.
@@ -51,7 +54,9 @@ pub(crate) fn behind_number(spot: &Spot) -> Option<Hint>
 pub(crate) fn relation_hint(spot: &Spot) -> Hint
     ensures { IsHintFor result (kind.Expected what.Relation) }
 {
-    if spot.begins_any(&["&", "|", "->", "<->", "given"]) {
+    if spot.begins_sign() {
+        Hint::GivenInSum(version_of(spot.before))
+    } else if spot.begins_any(&["&", "|", "->", "<->", "given"]) {
         Hint::Outside
     } else if spot.begins(")") {
         Hint::Unopened
@@ -66,6 +71,10 @@ pub(crate) fn number_hint(spot: &Spot) -> Hint
 {
     if spot.follows("=") && spot.begins("=") {
         Hint::OneEquals
+    } else if spot.begins_sign() {
+        sign_hint(spot)
+    } else if is_any(spot.word(), &["P"]) {
+        Hint::Compare(version_of(spot.before))
     } else {
         Hint::Number
     }
@@ -99,8 +108,22 @@ fn is_behind_comma(spot: &Spot) -> bool {
     }
 }
 
-/// A hint for a value above 1.
+/// A hint for a number that is too great.
 pub(crate) fn value_hint(spot: &Spot) -> Hint
+    ensures { IsHintFor result kind.NumberOutOfRange }
+{
+    let item = Item::before(spot);
+    if item.is_empty() || item.is_sum() {
+        Hint::Divide
+    } else if begins_term(spot.behind) {
+        Hint::CompareTimes(version_of(spot.before))
+    } else {
+        probability_hint(spot)
+    }
+}
+
+// A hint for a value above 1.
+fn probability_hint(spot: &Spot) -> Hint
     ensures { IsHintFor result kind.NumberOutOfRange }
 {
     let rest = rest_behind_number(spot);

@@ -5,6 +5,7 @@ use crate::items::{from_first_token, item_start};
 use crate::place::Place;
 use crate::refusals::Refusal;
 use crate::spot::Spot;
+use crate::sum_hints::begins_term;
 use crate::words::{is_any, word_at_front};
 use ps_read::{ReadKind, What};
 
@@ -34,9 +35,10 @@ fn begins_anew(rest: &[u8]) -> bool {
     }
 }
 
-// Whether an item begins here.
+// Whether an item begins here: a sentence with a term, perhaps behind a `-`.
 fn begins_item(code: &[u8]) -> bool {
-    is_any(word_at_front(code), &["P", "query", "end"])
+    is_any(word_at_front(code), &["query", "end"])
+        || begins_term(code.strip_prefix(b"-").unwrap_or(code))
 }
 
 // What stands behind the byte at an offset.
@@ -81,6 +83,16 @@ fn is_unended(kind: ReadKind, spot: &Spot) -> bool {
         && begins_item(spot.behind)
 }
 
+// How many dashes of a comment in the manner of another language stand before: of `--` the first one
+// is a sign of version 2.
+fn dashes_before(spot: &Spot) -> usize {
+    if spot.follows("-") && spot.begins("-") {
+        1
+    } else {
+        0
+    }
+}
+
 /// The part at fault of a text, for a refusal of it; `None` where its head or its end is at fault,
 /// or no item ends behind.
 pub(crate) fn faulty_part(text: &[u8], refusal: Refusal) -> Option<Part> {
@@ -101,7 +113,7 @@ pub(crate) fn faulty_part(text: &[u8], refusal: Refusal) -> Option<Part> {
     }
     if let Some(Hint::Comment) = hint_for(refusal.kind, &spot) {
         return Some(Part {
-            start: offset,
+            start: offset.saturating_sub(dashes_before(&spot)),
             end: offset.saturating_add(bytes_of_comment(spot.behind)),
         });
     }

@@ -132,7 +132,7 @@ pub fn refusal_message(
     let shown_spot = Spot::at(bytes, shown);
     let mut message = Message::new(alloc);
     push_place(&mut message, name, Place::behind_all(shown_spot.before))?;
-    match expectation(kind) {
+    match expectation(kind, &spot) {
         None => push_excess(alloc, &mut message, bytes, kind)?,
         Some(_) if not.is_some() => push_fault(&mut message, Found::at(&shown_spot), "`!`")?,
         Some(expected) => push_fault(&mut message, found_at(kind, &spot, shown), expected)?,

@@ -1,22 +1,40 @@
 //! A valid text, byte by byte: where its items begin.
 ghost use Rattle.std.specs.Prelude.{◌≡◌, ◌≤◌, ◌+◌, true};
 
+/// The items that are looked for.
+#[derive(Clone, Copy)]
+pub(crate) enum Looked {
+    Sentences,
+    Queries,
+}
+
+impl Looked {
+    // Whether such an item begins with the byte: a sentence with a `P`, or a linear one with a number
+    // or a `-`.
+    fn begins_with(self, byte: u8) -> bool {
+        match self {
+            Looked::Sentences => byte == b'P' || byte == b'-' || byte.is_ascii_digit(),
+            Looked::Queries => byte == b'q',
+        }
+    }
+}
+
 /// Where a valid text stands between two bytes.
 #[derive(Drop)]
 pub(crate) struct Scanner {
-    first: u8,
+    looked: Looked,
     line: u32,
     is_in_comment: bool,
     is_between_items: bool,
 }
 
 impl Scanner {
-    /// Before the first byte; the items are looked for that begin with a byte.
-    pub(crate) fn new(first: u8) -> Scanner
+    /// Before the first byte, where these items are looked for.
+    pub(crate) fn new(looked: Looked) -> Scanner
         ensures { result.line ≡ 1 }
     {
         Scanner {
-            first,
+            looked,
             line: 1,
             is_in_comment: false,
             is_between_items: true,
@@ -48,7 +66,7 @@ impl Scanner {
             self.is_in_comment = true;
             return false;
         }
-        let begins = self.is_between_items && byte == self.first;
+        let begins = self.is_between_items && self.looked.begins_with(byte);
         self.is_between_items = byte == b';';
         begins
     }

@@ -1,15 +1,15 @@
 //! Warnings about sentences and queries.
-ghost use Rattle.std.specs.Prelude.{◌≡◌, ◌↔◌, ◌<◌, IfOk, IfSome, IsSome, IsSomeAnd, IsTrue};
+ghost use Rattle.std.specs.Prelude.{◌≡◌, ◌↔◌, ◌<◌, IfOk, IsSome, IsTrue};
 ghost use Rattle.std.specs.Prelude.{None, false, length};
-ghost use Rattle.ps_problem.specs.Problems.{tree_at};
-ghost use Rattle.ps_hints.specs.Warnings.{is_one_or, IsBelow};
+ghost use Rattle.ps_problem.specs.Problems.{tree_at, IsSentence};
+ghost use Rattle.ps_hints.specs.Warnings.{is_one_or, IsBelow, IsTurned};
 
-use crate::about::begin_about;
+use crate::about::{begin_about, begin_about_sentence};
 use crate::disjunctions::is_one_or;
 use crate::kind::WarningKind;
 use crate::warning::Warning;
 use ps_io::NoMemory;
-use ps_problem::{Bound, Problem, Sentence, Side};
+use ps_problem::{Bound, Linear, Problem, Sentence, Side};
 use std::alloc::Global;
 
 // What is said of a `|` that may be meant for `given`.
@@ -21,13 +21,17 @@ const TURNED: &str = ": the ends of the interval are turned round, so nothing me
 // What is said of a sentence that stands twice.
 const TWICE: &str = ": the same sentence stands on line ";
 
+// Whether a `given` stands in a sentence.
+fn is_conditional(sentence: &Sentence) -> bool {
+    match sentence {
+        Sentence::Plain { first, .. } => first.given.is_some(),
+        Sentence::Linear(_) => false,
+    }
+}
+
 /// Whether a `given` stands in a problem: who wrote one knows how conditions are written.
 pub(crate) fn has_given(problem: &Problem) -> bool {
-    problem
-        .sentences()
-        .as_slice()
-        .iter()
-        .any(|sentence| sentence.first.given.is_some())
+    problem.sentences().as_slice().iter().any(is_conditional)
         || problem
             .queries()
             .as_slice()
@@ -79,11 +83,17 @@ fn is_above(first: &Bound, second: &Bound) -> bool
 
 // Whether the first number of a sentence's interval is the greater one.
 fn is_turned(sentence: &Sentence) -> bool
-    ensures { IsTrue result ↔ IsSomeAnd sentence.now.second (IsBelow sentence.now.first) }
+    ensures { IsTrue result ↔ IsTurned sentence.now }
 {
-    match &sentence.second {
-        Some(second) => is_above(&sentence.first, second),
-        None => false,
+    match sentence {
+        Sentence::Plain { first, second } => match second {
+            Some(second) => is_above(first, second),
+            None => false,
+        },
+        Sentence::Linear(linear) => match linear.upper {
+            Some(most) => most < linear.right,
+            None => false,
+        },
     }
 }
 
@@ -94,16 +104,13 @@ pub(crate) fn turned_warning(
     problem: &Problem,
     sentence: &Sentence,
 ) -> Result<Option<Warning>, NoMemory>
-    requires formula { sentence.now.first.formula < length problem.now.nodes }
-    requires given { IfSome sentence.now.first.given (λ g. g < length problem.now.nodes) }
-    ensures { IfOk result
-        (λ w. IsSome w ↔ IsSomeAnd sentence.now.second (IsBelow sentence.now.first)) }
+    requires { IsSentence problem.now.nodes sentence.now }
+    ensures { IfOk result (λ w. IsSome w ↔ IsTurned sentence.now) }
 {
     if !is_turned(sentence) {
         return Ok(None);
     }
-    let first = sentence.first;
-    let message = begin_about(alloc, problem, first.formula, first.given, TURNED)?;
+    let message = begin_about_sentence(alloc, problem, sentence, TURNED)?;
     Ok(Some(Warning {
         kind: WarningKind::Interval,
         line,
@@ -111,9 +118,33 @@ pub(crate) fn turned_warning(
     }))
 }
 
+// Whether two sums are the same.
+fn is_same_sum(one: &Linear, other: &Linear) -> bool {
+    one.terms.as_slice() == other.terms.as_slice()
+        && one.scale == other.scale
+        && one.side == other.side
+        && one.right == other.right
+        && one.upper == other.upper
+}
+
+// Whether two sentences are the same.
+fn is_same(one: &Sentence, other: &Sentence) -> bool {
+    match (one, other) {
+        (
+            Sentence::Plain { first, second },
+            Sentence::Plain {
+                first: lower,
+                second: upper,
+            },
+        ) => first == lower && second == upper,
+        (Sentence::Linear(one), Sentence::Linear(other)) => is_same_sum(one, other),
+        _ => false,
+    }
+}
+
 // The place of the first of some sentences that is this one.
 fn place_of(sentences: &[Sentence], sentence: &Sentence) -> Option<usize> {
-    sentences.iter().position(|other| other == sentence)
+    sentences.iter().position(|other| is_same(other, sentence))
 }
 
 /// The warning about a sentence that stands among those before it too.
@@ -124,8 +155,7 @@ pub(crate) fn twice_warning(
     problem: &Problem,
     sentence: &Sentence,
 ) -> Result<Option<Warning>, NoMemory>
-    requires formula { sentence.now.first.formula < length problem.now.nodes }
-    requires given { IfSome sentence.now.first.given (λ g. g < length problem.now.nodes) }
+    requires { IsSentence problem.now.nodes sentence.now }
 {
     let Some(place) = place_of(problem.sentences().as_slice(), sentence) else {
         return Ok(None);
@@ -136,8 +166,7 @@ pub(crate) fn twice_warning(
     if place >= index {
         return Ok(None);
     }
-    let first = sentence.first;
-    let mut message = begin_about(alloc, problem, first.formula, first.given, TWICE)?;
+    let mut message = begin_about_sentence(alloc, problem, sentence, TWICE)?;
     message.push_number(*before)?;
     Ok(Some(Warning {
         kind: WarningKind::Twice,

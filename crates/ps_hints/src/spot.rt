@@ -2,7 +2,7 @@
 ghost use Rattle.std.specs.Prelude.{◌≡◌, ◌≤◌, ◌++◌, length, slice_get};
 ghost use Rattle.ps_hints.specs.Found.{IsFront};
 
-use crate::words::{word_at_end, word_at_front};
+use crate::words::{is_any, word_at_end, word_at_front};
 
 /// What stands around a place of a text.
 #[derive(Clone, Copy)]
@@ -36,6 +36,16 @@ impl<'t> Spot<'t> {
     /// Whether one of these stands here.
     pub(crate) fn begins_any(&self, signs: &[&'static str]) -> bool {
         signs.iter().any(|sign| self.begins(sign))
+    }
+
+    /// Whether a `+` or a `-` stands here.
+    pub(crate) fn begins_sign(&self) -> bool {
+        self.begins("+") || self.begins("-") && !self.begins("->")
+    }
+
+    /// Whether a relation stands here.
+    pub(crate) fn begins_relation(&self) -> bool {
+        self.begins_any(&["=", "<=", ">="]) || is_any(self.word(), &["in"])
     }
 
     /// Whether this stands right before.

@@ -1,5 +1,5 @@
 //! Warnings about a problem.
-ghost use Rattle.std.specs.Prelude.{◌<◌, IfSome, length};
+ghost use Rattle.ps_problem.specs.Problems.{IsLinear, IsSentence};
 ghost use Rattle.ps_hints.specs.Shown.{AddsLines};
 
 use crate::kind::Wanted;
@@ -8,13 +8,49 @@ use crate::sentences::{has_given, is_law, or_warning, turned_warning, twice_warn
 use crate::starts::{query_lines, sentence_lines};
 use crate::warning::{Warning, write_warning_lines};
 use ps_io::NoMemory;
-use ps_problem::{Problem, Sentence};
+use ps_problem::{Linear, Problem, Sentence};
 use std::alloc::Global;
 
 // Adds a warning where there is one.
 fn push(out: &mut Vec<Warning>, warning: Option<Warning>) -> Result<(), NoMemory> {
     if let Some(warning) = warning {
         out.push(warning)?;
+    }
+    Ok(())
+}
+
+// Adds the warnings about a sentence's formulas that are joined by one `|`, if it states no law.
+fn warn_of_or(
+    alloc: Global,
+    out: &mut Vec<Warning>,
+    line: Option<u32>,
+    problem: &Problem,
+    sentence: &Sentence,
+) -> Result<(), NoMemory>
+    requires { IsSentence problem.now.nodes sentence.now }
+{
+    match sentence {
+        Sentence::Plain { first, .. } if is_law(first) => Ok(()),
+        Sentence::Plain { first, .. } => push(
+            out,
+            or_warning(alloc, line, problem, first.formula, first.given)?,
+        ),
+        Sentence::Linear(linear) => warn_of_terms(alloc, out, line, problem, linear),
+    }
+}
+
+// Adds the warnings about the formulas of a linear sentence's terms.
+fn warn_of_terms(
+    alloc: Global,
+    out: &mut Vec<Warning>,
+    line: Option<u32>,
+    problem: &Problem,
+    linear: &Linear,
+) -> Result<(), NoMemory>
+    requires { IsLinear problem.now.nodes linear.now }
+{
+    for term in linear.terms.as_slice() {
+        push(out, or_warning(alloc, line, problem, term.0, None)?)?;
     }
     Ok(())
 }
@@ -29,16 +65,11 @@ fn warn_of_sentence(
     problem: &Problem,
     sentence: &Sentence,
 ) -> Result<(), NoMemory>
-    requires formula { sentence.now.first.formula < length problem.now.nodes }
-    requires given { IfSome sentence.now.first.given (λ g. g < length problem.now.nodes) }
+    requires { IsSentence problem.now.nodes sentence.now }
 {
-    let first = sentence.first;
     let line = lines.get(index).copied();
-    if wanted.or && !is_law(&first) {
-        push(
-            out,
-            or_warning(alloc, line, problem, first.formula, first.given)?,
-        )?;
+    if wanted.or {
+        warn_of_or(alloc, out, line, problem, sentence)?;
     }
     if wanted.interval {
         push(out, turned_warning(alloc, line, problem, sentence)?)?;

@@ -33,6 +33,18 @@ pub(crate) fn is_any(word: &[u8], words: &[&'static str]) -> bool {
     words.iter().any(|one| one.as_bytes() == word)
 }
 
+/// Whether a word stands in some bytes.
+pub(crate) fn has_word(bytes: &[u8], word: &str) -> bool {
+    let mut is_inside = false;
+    for (offset, byte) in bytes.iter().enumerate() {
+        if !is_inside && word_at_front(bytes.get(offset..).unwrap_or(&[])) == word.as_bytes() {
+            return true;
+        }
+        is_inside = is_word_byte(*byte);
+    }
+    false
+}
+
 /// Whether a word has a meaning of its own, so that it can't be a name.
 pub(crate) fn is_reserved(word: &[u8]) -> bool {
     is_any(

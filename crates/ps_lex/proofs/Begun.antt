@@ -2,6 +2,7 @@
 use Rattle.std.proofs.Common.{◌≡◌, ℕ, true, inl, inr, List, [], ◌∷◌, Option, Some, None, refl, sym, subst, true≢false}
 use Rattle.std.specs.Prelude.{◌==◌}
 use Rattle.ps_text.specs.Tokens.{is_digit, is_word_byte}
+use Rattle.ps_text.specs.declared.symbol.Symbol.TheVariants as symbol
 use Rattle.ps_text.proofs.Cutting.{decide}
 use Rattle.ps_lex.specs.declared.position.Position.{Position}
 use Rattle.ps_lex.specs.declared.token.Numeral.TheVariants as numeral
@@ -52,8 +53,8 @@ turn (mode.Decimal d k) q p b h = elim (decide (is_digit b)) [
   | inr e ↦ Ends (token.Number (numeral.Decimal d k)) (rw e refl)
 ]
 turn mode.Minus q p b h = elim (decide (b == 62)) [
-  | inl e ↦ Continues refl refl (rw e refl)
-  | inr e ↦ Fails refl (rw e refl)
+  | inl e ↦ Continues (rw e refl) (rw e refl) (rw e refl)
+  | inr e ↦ Ends (token.Sign symbol.Minus) (rw e refl)
 ]
 turn mode.Less q p b h = elim (decide (b == 61)) [
   | inl e ↦ Continues refl refl (rw e refl)
@@ -87,7 +88,7 @@ at_end (mode.Slash d s) q h = Told (token.Number (numeral.Whole d)) [] (Some s) 
 at_end (mode.Quotient d e) q h = Told (token.Number (numeral.Quotient d e)) [] None refl
 at_end (mode.Point d s) q h = Told (token.Number (numeral.Whole d)) [] (Some s) refl
 at_end (mode.Decimal d k) q h = Told (token.Number (numeral.Decimal d k)) [] None refl
-at_end mode.Minus q h = Bare refl
+at_end mode.Minus q h = Told (token.Sign symbol.Minus) [] None refl
 at_end mode.Less q h = Bare refl
 at_end mode.LessMinus q h = Bare refl
 at_end mode.Greater q h = Bare refl

@@ -8,3 +8,4 @@ pub mod Letters
 pub mod Figures
 pub mod Groups
 pub mod Seen
+pub mod Terms

@@ -5,7 +5,7 @@ use Rattle.std.specs.Prelude.{◌==◌}
 use Rattle.ps_text.specs.Tokens as text
 use Rattle.ps_text.specs.declared.symbol.Symbol.{Symbol}
 use Rattle.ps_text.specs.declared.symbol.Symbol.TheVariants as symbol
-use Rattle.ps_text.specs.Tokens.{One, IsToken, IsNumeral, is_letter, is_digit, numeral_spelling, symbol_spelling, spelling}
+use Rattle.ps_text.specs.Tokens.{IsToken, IsNumeral, is_letter, is_digit, numeral_spelling, symbol_spelling, spelling}
 use Rattle.ps_text.specs.Pieces.{is_blank}
 use Rattle.ps_text.proofs.Spans.{refute}
 use Rattle.ps_lex.specs.declared.position.Position.{Position}
@@ -24,6 +24,7 @@ mode_of (text.Word w) = mode.Word (take 33 w)
 mode_of (text.Number (text.Whole ds)) = mode.Whole (with_digits no_digits ds)
 mode_of (text.Number (text.Quotient ds es)) = mode.Quotient (with_digits no_digits ds) (with_digits no_digits es)
 mode_of (text.Number (text.Decimal ds es)) = mode.Decimal (with_digits (with_digits no_digits ds) es) (min (length es) 7)
+mode_of (text.Sign symbol.Minus) = mode.Minus
 mode_of (text.Sign s) = mode.Sign s
 
 pub letter_no_blank : (b : ℕ) → is_letter b ≡ true → is_blank b ≡ false
@@ -80,7 +81,7 @@ behind_append p (x ∷ xs) ys = behind_append (behind p x) xs ys
 
 -- behind the first byte of a symbol
 symbol_lexed : (s : Symbol) (after : List ℕ) (p : Position)
-    → lexed (begun_at p (head_of (symbol_spelling s))) (tail_of (symbol_spelling s) ++ after) ≡ lexed (state (mode.Sign s) p (behind_all p (symbol_spelling s))) after
+    → lexed (begun_at p (head_of (symbol_spelling s))) (tail_of (symbol_spelling s) ++ after) ≡ lexed (state (mode_of (text.Sign s)) p (behind_all p (symbol_spelling s))) after
 unfolding lexed token_ended with_byte begun
 symbol_lexed symbol.Open after p = refl
 symbol_lexed symbol.Close after p = refl
@@ -96,6 +97,8 @@ symbol_lexed symbol.DoubleArrow after p = refl
 symbol_lexed symbol.Equals after p = refl
 symbol_lexed symbol.GreaterEquals after p = refl
 symbol_lexed symbol.LessEquals after p = refl
+symbol_lexed symbol.Plus after p = refl
+symbol_lexed symbol.Minus after p = refl
 
 more_decimals : (n : ℕ) → min (1 + n) 7 ≡ min (suc n) 7
 more_decimals n = omega arith
@@ -127,7 +130,7 @@ number_lexed (text.Decimal [] es) after p i = absurd i.0
 number_lexed (text.Decimal (d ∷ ds) []) after p i = absurd i.1
 
 -- behind the first byte of a token
-pub token_lexed : (t : text.Token) (after : List ℕ) (p : Position) → IsToken One t
+pub token_lexed : (t : text.Token) (after : List ℕ) (p : Position) → IsToken t
     → lexed (begun_at p (head_of (spelling t))) (tail_of (spelling t) ++ after) ≡ lexed (state (mode_of t) p (behind_all p (spelling t))) after
 token_lexed (text.Word []) after p i = absurd i
 token_lexed (text.Word (b ∷ bs)) after p i =

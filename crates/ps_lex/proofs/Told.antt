@@ -5,7 +5,7 @@ use Rattle.std.specs.List.{AllByRecursion}
 use Rattle.ps_text.specs.Tokens as text
 use Rattle.ps_text.specs.declared.symbol.Symbol.{Symbol}
 use Rattle.ps_text.specs.declared.symbol.Symbol.TheVariants as symbol
-use Rattle.ps_text.specs.Tokens.{One, IsToken, is_letter, is_digit, symbol_spelling, spelling, BeginsNone}
+use Rattle.ps_text.specs.Tokens.{IsToken, is_letter, is_digit, symbol_spelling, spelling, BeginsNone}
 use Rattle.ps_text.specs.Pieces.{text as text_of, Piece, Blank, Comment, Spelled, texts, Cuts, Fits, IsBad, EndsLine, is_blank}
 use Rattle.ps_text.proofs.Spans.{starts_behind, same_byte}
 use Rattle.ps_text.proofs.Longest.{Stops, longest_stops}
@@ -70,14 +70,20 @@ number_ended (text.Quotient ds es) (c ∷ cs) q p s = ended_lexed (mode_of (text
 number_ended (text.Decimal ds es) [] q p s = refl
 number_ended (text.Decimal ds es) (c ∷ cs) q p s = ended_lexed (mode_of (text.Number (text.Decimal ds es))) (seen (text.Number (text.Decimal ds es))) c cs q p (rw s refl)
 
+symbol_ended : (x : Symbol) (bytes : List ℕ) (q p : Position) → Stops (text.Sign x) bytes → lexed (state (mode_of (text.Sign x)) q p) bytes ≡ after_tokens ((seen (text.Sign x), q) ∷ []) (entered p bytes)
+unfolding lexed token_ended with_byte
+symbol_ended symbol.Minus [] q p s = refl
+symbol_ended symbol.Minus (c ∷ cs) q p s = ended_lexed mode.Minus (seen (text.Sign symbol.Minus)) c cs q p (rw s refl)
+symbol_ended x [] q p s = refl
+symbol_ended x (c ∷ cs) q p s = ended_lexed (mode_of (text.Sign x)) (seen (text.Sign x)) c cs q p refl
+
 -- a token is told once it is whole
 token_ended_at : (t : text.Token) (bytes : List ℕ) (q p : Position) → Stops t bytes → lexed (state (mode_of t) q p) bytes ≡ after_tokens ((seen t, q) ∷ []) (entered p bytes)
 unfolding lexed token_ended with_byte
 token_ended_at (text.Word w) [] q p s = refl
 token_ended_at (text.Word w) (c ∷ cs) q p s = ended_lexed (mode_of (text.Word w)) (seen (text.Word w)) c cs q p (rw s refl)
 token_ended_at (text.Number n) bytes q p s = number_ended n bytes q p s
-token_ended_at (text.Sign x) [] q p s = refl
-token_ended_at (text.Sign x) (c ∷ cs) q p s = ended_lexed (mode_of (text.Sign x)) (seen (text.Sign x)) c cs q p refl
+token_ended_at (text.Sign x) bytes q p s = symbol_ended x bytes q p s
 
 -- a comment ends with its line
 comment_ended : (bytes : List ℕ) (q p : Position) → EndsLine bytes → lexed (state mode.Comment q p) bytes ≡ entered p bytes
@@ -109,7 +115,7 @@ comment_entered c after p h e =
     ∙ comment_ended after p (behind_all (behind p 35) c) e
 
 -- a token begins with its first byte
-spelled_entered : (t : text.Token) (after : List ℕ) (p : Position) → IsToken One t → entered p (spelling t ++ after) ≡ lexed (begun_at p (head_of (spelling t))) (tail_of (spelling t) ++ after)
+spelled_entered : (t : text.Token) (after : List ℕ) (p : Position) → IsToken t → entered p (spelling t ++ after) ≡ lexed (begun_at p (head_of (spelling t))) (tail_of (spelling t) ++ after)
 unfolding begun
 spelled_entered (text.Word []) after p i = absurd i
 spelled_entered (text.Word (b ∷ bs)) after p i = ap (λ m. stops_or (bad_place m) (lexed (begun_at p b) (bs ++ after))) (word_begun b p i.0)
@@ -133,12 +139,14 @@ spelled_entered (text.Sign symbol.DoubleArrow) after p i = refl
 spelled_entered (text.Sign symbol.Equals) after p i = refl
 spelled_entered (text.Sign symbol.GreaterEquals) after p i = refl
 spelled_entered (text.Sign symbol.LessEquals) after p i = refl
+spelled_entered (text.Sign symbol.Plus) after p i = refl
+spelled_entered (text.Sign symbol.Minus) after p i = refl
 
-piece_entered : (x : Piece) (after : List ℕ) (p : Position) → Fits One x after → entered p (text_of x ++ after) ≡ after_tokens (told p (x ∷ [])) (entered (behind_all p (text_of x)) after)
+piece_entered : (x : Piece) (after : List ℕ) (p : Position) → Fits x after → entered p (text_of x ++ after) ≡ after_tokens (told p (x ∷ [])) (entered (behind_all p (text_of x)) after)
 piece_entered (Blank b) after p f = blank_entered b after p f
 piece_entered (Comment c) after p f = comment_entered c after p f.0 f.1
 piece_entered (Spelled t) after p f =
-    spelled_entered t after p f.0 ∙ token_lexed t after p f.0 ∙ token_ended_at t after p (behind_all p (spelling t)) (longest_stops One t after f.0 f.1)
+    spelled_entered t after p f.0 ∙ token_lexed t after p f.0 ∙ token_ended_at t after p (behind_all p (spelling t)) (longest_stops t after f.0 f.1)
 
 after_more : (x : Piece) (ps : List Piece) (p : Position) (r : List (Token × Position) × Option Position) → after_tokens (told p (x ∷ [])) (after_tokens (told (behind_all p (text_of x)) ps) r) ≡ after_tokens (told p (x ∷ ps)) r
 after_more (Blank b) ps p r = refl
@@ -146,7 +154,7 @@ after_more (Comment c) ps p r = refl
 after_more (Spelled t) ps p r = refl
 
 -- the bytes of pieces tell the pieces' tokens
-pub pieces_entered : (ps : List Piece) (rest : List ℕ) (p : Position) → Cuts One ps rest → entered p (texts ps ++ rest) ≡ after_tokens (told p ps) (entered (behind_all p (texts ps)) rest)
+pub pieces_entered : (ps : List Piece) (rest : List ℕ) (p : Position) → Cuts ps rest → entered p (texts ps ++ rest) ≡ after_tokens (told p ps) (entered (behind_all p (texts ps)) rest)
 pieces_entered [] rest p c = refl
 pieces_entered (x ∷ ps) rest p c =
     ap (entered p) (append_assoc (text_of x) (texts ps) rest)
@@ -155,20 +163,20 @@ pieces_entered (x ∷ ps) rest p c =
     ∙ after_more x ps p (entered (behind_all (behind_all p (text_of x)) (texts ps)) rest)
     ∙ ap (λ h. after_tokens (told p (x ∷ ps)) (entered h rest)) (sym (behind_append p (text_of x) (texts ps)))
 
-none_at : (bytes : List ℕ) → BeginsNone One bytes → (u : text.Token) (more : List ℕ) → IsToken One u → bytes ≡ spelling u ++ more → ⊥
+none_at : (bytes : List ℕ) → BeginsNone bytes → (u : text.Token) (more : List ℕ) → IsToken u → bytes ≡ spelling u ++ more → ⊥
 unfolding BeginsNone
 none_at bytes n = n
 
-not_first : (b c : ℕ) (bs : List ℕ) (s : Symbol) → symbol_spelling s ≡ c ∷ [] → BeginsNone One (b ∷ bs) → (b == c) ≡ false
+not_first : (b c : ℕ) (bs : List ℕ) (s : Symbol) → symbol_spelling s ≡ c ∷ [] → BeginsNone (b ∷ bs) → (b == c) ≡ false
 not_first b c bs s e n = elim (decide (b == c)) [
-  | inl h ↦ absurd (none_at (b ∷ bs) n (text.Sign s) bs refl (ap (λ x. x ∷ bs) (same_byte b c h) ∙ sym (ap (λ w. w ++ bs) e)))
+  | inl h ↦ absurd (none_at (b ∷ bs) n (text.Sign s) bs tt (ap (λ x. x ∷ bs) (same_byte b c h) ∙ sym (ap (λ w. w ++ bs) e)))
   | inr h ↦ h
 ]
 
-no_letter : (b : ℕ) (bs : List ℕ) → BeginsNone One (b ∷ bs) → is_letter b ≡ false
+no_letter : (b : ℕ) (bs : List ℕ) → BeginsNone (b ∷ bs) → is_letter b ≡ false
 no_letter b bs n = elim (decide (is_letter b)) [ inl h ↦ absurd (none_at (b ∷ bs) n (text.Word (b ∷ [])) bs (h, tt) refl) | inr h ↦ h ]
 
-no_number : (b : ℕ) (bs : List ℕ) → BeginsNone One (b ∷ bs) → is_digit b ≡ false
+no_number : (b : ℕ) (bs : List ℕ) → BeginsNone (b ∷ bs) → is_digit b ≡ false
 no_number b bs n = elim (decide (is_digit b)) [ inl h ↦ absurd (none_at (b ∷ bs) n (text.Number (text.Whole (b ∷ []))) bs (h, tt) refl) | inr h ↦ h ]
 
 bare_parts : (x y : Bool) → not (x || y) ≡ true → (x ≡ false) × (y ≡ false)
@@ -177,15 +185,15 @@ bare_parts false true h = absurd cc
 bare_parts false false h = (refl, refl)
 
 -- no symbol has this as its second byte
-second : (b c : ℕ) (bs : List ℕ) (f : ℕ) (s : Symbol) → symbol_spelling s ≡ f ∷ c ∷ [] → BeginsNone One (f ∷ b ∷ bs) → (b == c) ≡ false
+second : (b c : ℕ) (bs : List ℕ) (f : ℕ) (s : Symbol) → symbol_spelling s ≡ f ∷ c ∷ [] → BeginsNone (f ∷ b ∷ bs) → (b == c) ≡ false
 second b c bs f s e n = elim (decide (b == c)) [
-  | inl h ↦ absurd (none_at (f ∷ b ∷ bs) n (text.Sign s) bs refl (ap (λ x. f ∷ x ∷ bs) (same_byte b c h) ∙ sym (ap (λ w. w ++ bs) e)))
+  | inl h ↦ absurd (none_at (f ∷ b ∷ bs) n (text.Sign s) bs tt (ap (λ x. f ∷ x ∷ bs) (same_byte b c h) ∙ sym (ap (λ w. w ++ bs) e)))
   | inr h ↦ h
 ]
 
-third : (b : ℕ) (bs : List ℕ) → BeginsNone One (60 ∷ 45 ∷ b ∷ bs) → (b == 62) ≡ false
+third : (b : ℕ) (bs : List ℕ) → BeginsNone (60 ∷ 45 ∷ b ∷ bs) → (b == 62) ≡ false
 third b bs n = elim (decide (b == 62)) [
-  | inl h ↦ absurd (none_at (60 ∷ 45 ∷ b ∷ bs) n (text.Sign symbol.DoubleArrow) bs refl (ap (λ x. 60 ∷ 45 ∷ x ∷ bs) (same_byte b 62 h)))
+  | inl h ↦ absurd (none_at (60 ∷ 45 ∷ b ∷ bs) n (text.Sign symbol.DoubleArrow) bs tt (ap (λ x. 60 ∷ 45 ∷ x ∷ bs) (same_byte b 62 h)))
   | inr h ↦ h
 ]
 
@@ -194,56 +202,48 @@ turns_bad : (m : Mode) (q p : Position) (x : ℕ) (xs : List ℕ) → stepped_in
 unfolding lexed token_ended with_byte
 turns_bad m q p x xs e = rw e refl
 
-minus_bad : (cs : List ℕ) (q p : Position) → BeginsNone One (45 ∷ cs) → lexed (state mode.Minus q p) cs ≡ ([], Some q)
-unfolding lexed
-minus_bad [] q p n = refl
-minus_bad (x ∷ xs) q p n = turns_bad mode.Minus q p x xs (rw (second x 62 xs 45 symbol.Arrow refl n) refl)
-
-greater_bad : (cs : List ℕ) (q p : Position) → BeginsNone One (62 ∷ cs) → lexed (state mode.Greater q p) cs ≡ ([], Some q)
+greater_bad : (cs : List ℕ) (q p : Position) → BeginsNone (62 ∷ cs) → lexed (state mode.Greater q p) cs ≡ ([], Some q)
 unfolding lexed
 greater_bad [] q p n = refl
 greater_bad (x ∷ xs) q p n = turns_bad mode.Greater q p x xs (rw (second x 61 xs 62 symbol.GreaterEquals refl n) refl)
 
-less_minus_bad : (cs : List ℕ) (q p : Position) → BeginsNone One (60 ∷ 45 ∷ cs) → lexed (state mode.LessMinus q p) cs ≡ ([], Some q)
+less_minus_bad : (cs : List ℕ) (q p : Position) → BeginsNone (60 ∷ 45 ∷ cs) → lexed (state mode.LessMinus q p) cs ≡ ([], Some q)
 unfolding lexed
 less_minus_bad [] q p n = refl
 less_minus_bad (x ∷ xs) q p n = turns_bad mode.LessMinus q p x xs (rw (third x xs n) refl)
 
-less_bad : (cs : List ℕ) (q p : Position) → BeginsNone One (60 ∷ cs) → lexed (state mode.Less q p) cs ≡ ([], Some q)
+less_bad : (cs : List ℕ) (q p : Position) → BeginsNone (60 ∷ cs) → lexed (state mode.Less q p) cs ≡ ([], Some q)
 unfolding lexed
 less_bad [] q p n = refl
 less_bad (x ∷ xs) q p n = elim (decide (x == 45)) [
   | inl h ↦ subst (λ y. lexed (state mode.Less q p) (y ∷ xs) ≡ ([], Some q)) (sym (same_byte x 45 h))
-      (one_at mode.Less mode.LessMinus 45 xs q p refl refl ∙ less_minus_bad xs q (behind p 45) (subst (λ y. BeginsNone One (60 ∷ y ∷ xs)) (same_byte x 45 h) n))
+      (one_at mode.Less mode.LessMinus 45 xs q p refl refl ∙ less_minus_bad xs q (behind p 45) (subst (λ y. BeginsNone (60 ∷ y ∷ xs)) (same_byte x 45 h) n))
   | inr h ↦ turns_bad mode.Less q p x xs (rw (second x 61 xs 60 symbol.LessEquals refl n, h) refl)
 ]
 
-symbol_bad : (c : ℕ) (cs : List ℕ) (p : Position) → BeginsNone One (c ∷ cs) → stops_or (bad_place (symbol_begun p c)) (lexed (state (symbol_begun p c) p (behind p c)) cs) ≡ ([], Some p)
-symbol_bad c cs p n = elim (decide (c == 45)) [
-  | inl h ↦ subst (λ x. stops_or (bad_place (symbol_begun p x)) (lexed (state (symbol_begun p x) p (behind p x)) cs) ≡ ([], Some p)) (sym (same_byte c 45 h))
-      (minus_bad cs p (behind p 45) (subst (λ x. BeginsNone One (x ∷ cs)) (same_byte c 45 h) n))
-  | inr h1 ↦ elim (decide (c == 60)) [
-    | inl h ↦ subst (λ x. stops_or (bad_place (symbol_begun p x)) (lexed (state (symbol_begun p x) p (behind p x)) cs) ≡ ([], Some p)) (sym (same_byte c 60 h))
-        (less_bad cs p (behind p 60) (subst (λ x. BeginsNone One (x ∷ cs)) (same_byte c 60 h) n))
-    | inr h2 ↦ elim (decide (c == 62)) [
-      | inl h ↦ subst (λ x. stops_or (bad_place (symbol_begun p x)) (lexed (state (symbol_begun p x) p (behind p x)) cs) ≡ ([], Some p)) (sym (same_byte c 62 h))
-          (greater_bad cs p (behind p 62) (subst (λ x. BeginsNone One (x ∷ cs)) (same_byte c 62 h) n))
-      | inr h3 ↦ rw (
-        not_first c 40 cs symbol.Open refl n,
-        not_first c 41 cs symbol.Close refl n,
-        not_first c 91 cs symbol.OpenBracket refl n,
-        not_first c 93 cs symbol.CloseBracket refl n,
-        not_first c 44 cs symbol.Comma refl n,
-        not_first c 59 cs symbol.Semicolon refl n,
-        not_first c 33 cs symbol.Bang refl n,
-        not_first c 38 cs symbol.Ampersand refl n,
-        not_first c 124 cs symbol.Bar refl n,
-        not_first c 61 cs symbol.Equals refl n,
-        h1,
-        h2,
-        h3,
-      ) refl
-    ]
+symbol_bad : (c : ℕ) (cs : List ℕ) (p : Position) → BeginsNone (c ∷ cs) → stops_or (bad_place (symbol_begun p c)) (lexed (state (symbol_begun p c) p (behind p c)) cs) ≡ ([], Some p)
+symbol_bad c cs p n = elim (decide (c == 60)) [
+  | inl h ↦ subst (λ x. stops_or (bad_place (symbol_begun p x)) (lexed (state (symbol_begun p x) p (behind p x)) cs) ≡ ([], Some p)) (sym (same_byte c 60 h))
+      (less_bad cs p (behind p 60) (subst (λ x. BeginsNone (x ∷ cs)) (same_byte c 60 h) n))
+  | inr h2 ↦ elim (decide (c == 62)) [
+    | inl h ↦ subst (λ x. stops_or (bad_place (symbol_begun p x)) (lexed (state (symbol_begun p x) p (behind p x)) cs) ≡ ([], Some p)) (sym (same_byte c 62 h))
+        (greater_bad cs p (behind p 62) (subst (λ x. BeginsNone (x ∷ cs)) (same_byte c 62 h) n))
+    | inr h3 ↦ rw (
+      not_first c 40 cs symbol.Open refl n,
+      not_first c 41 cs symbol.Close refl n,
+      not_first c 91 cs symbol.OpenBracket refl n,
+      not_first c 93 cs symbol.CloseBracket refl n,
+      not_first c 44 cs symbol.Comma refl n,
+      not_first c 59 cs symbol.Semicolon refl n,
+      not_first c 33 cs symbol.Bang refl n,
+      not_first c 38 cs symbol.Ampersand refl n,
+      not_first c 124 cs symbol.Bar refl n,
+      not_first c 61 cs symbol.Equals refl n,
+      not_first c 43 cs symbol.Plus refl n,
+      not_first c 45 cs symbol.Minus refl n,
+      h2,
+      h3,
+    ) refl
   ]
 ]
 
@@ -259,13 +259,13 @@ pub all_lexed : (bytes : List ℕ) → lexed new_lexer bytes ≡ entered start b
 all_lexed bytes = between bytes start start
 
 -- the tokens of pieces, up to the end
-pub whole_told : (pieces : List Piece) → Cuts One pieces [] → lexed new_lexer (texts pieces) ≡ (told start pieces, None)
+pub whole_told : (pieces : List Piece) → Cuts pieces [] → lexed new_lexer (texts pieces) ≡ (told start pieces, None)
 whole_told ps c =
     ap (λ bs. lexed new_lexer bs) (sym (append-nil (texts ps))) ∙ all_lexed (texts ps ++ []) ∙ pieces_entered ps [] start c
     ∙ ap (λ ts. (ts, None)) (append-nil (told start ps))
 
 -- the tokens of pieces, up to a place where none stands
-pub bad_told : (pieces : List Piece) (rest : List ℕ) → Cuts One pieces rest → (rest ≡ [] → ⊥) → IsBad rest → lexed new_lexer (texts pieces ++ rest) ≡ (told start pieces, Some (behind_all start (texts pieces)))
+pub bad_told : (pieces : List Piece) (rest : List ℕ) → Cuts pieces rest → (rest ≡ [] → ⊥) → IsBad rest → lexed new_lexer (texts pieces ++ rest) ≡ (told start pieces, Some (behind_all start (texts pieces)))
 bad_told ps rest c some b =
     all_lexed (texts ps ++ rest) ∙ pieces_entered ps rest start c
     ∙ ap (after_tokens (told start ps)) (bad_entered rest (behind_all start (texts ps)) some b)

@@ -1,5 +1,6 @@
 -- What is kept of tokens, as tokens, and what is kept of the state.
-use Rattle.std.specs.Prelude.{◌≡◌, ℕ, zero, suc, ◌+◌, ◌==◌, if◌then◌else◌, List, [], ◌∷◌, ◌++◌, replicate}
+use Rattle.std.specs.Prelude.{◌≡◌, ℕ, zero, suc, ◌+◌, ◌==◌, ◌<◌, true, if◌then◌else◌, List, [], ◌∷◌, ◌++◌, replicate, Option}
+use Rattle.ps_text.specs.declared.limits.TheConstants.{MOST_TERMS}
 use Rattle.ps_text.specs.Tokens as text
 use Rattle.ps_text.specs.ExpectedTokens as expected
 use Rattle.ps_lex.specs.declared.digits.Digits.{Digits}
@@ -38,7 +39,15 @@ token_of (token.Sign s) = text.Sign s
 
 -- the state, in the words of the definitions
 abbrev pub state_of : State → expected.State
-state_of s = record { part = s.part; query = s.query; given = s.given; opened = s.opened }
+state_of s = record {
+  part = s.part;
+  query = s.query;
+  given = s.given;
+  opened = s.opened;
+  version = s.version;
+  linear = s.linear;
+  minus = s.minus;
+}
 
 -- the state with no `!` open that was opened last
 abbrev pub nots_ended : State → expected.State
@@ -67,3 +76,7 @@ IsRefusedAlike s t = expected.refusal s (token_of (seen t)) ≡ expected.refusal
 -- behind what is kept of a token the same is expected as behind the token
 abbrev pub IsPassedAlike : expected.State → text.Token → Type 0
 IsPassedAlike s t = expected.after s (token_of (seen t)) ≡ expected.after s t
+
+-- where the token begins a further term, there is room for it
+abbrev pub HasRoom : Option ℕ → text.Token → Type 0
+HasRoom linear t = expected.is_term_sign t ≡ true → expected.terms_so_far linear < MOST_TERMS

@@ -17,7 +17,7 @@ use Rattle.ps_lex.specs.declared.step.Step.{Step}
 use Rattle.ps_lex.specs.Counted.{no_digits, with_digit, IsCapped}
 use Rattle.ps_lex.specs.Places.{start, behind}
 
--- the mode behind a symbol's first byte, ( ) [ ] , ; ! & | = - < or >, and behind one that begins no token
+-- the mode behind a symbol's first byte, ( ) [ ] , ; ! & | = + - < or >, and behind one that begins no token
 abbrev pub symbol_begun : Position → ℕ → Mode
 symbol_begun here b =
     if b == 40 then mode.Sign symbol.Open else if b == 41 then mode.Sign symbol.Close
@@ -25,7 +25,8 @@ symbol_begun here b =
     else if b == 44 then mode.Sign symbol.Comma else if b == 59 then mode.Sign symbol.Semicolon
     else if b == 33 then mode.Sign symbol.Bang else if b == 38 then mode.Sign symbol.Ampersand
     else if b == 124 then mode.Sign symbol.Bar else if b == 61 then mode.Sign symbol.Equals
-    else if b == 45 then mode.Minus else if b == 60 then mode.Less else if b == 62 then mode.Greater
+    else if b == 43 then mode.Sign symbol.Plus else if b == 45 then mode.Minus
+    else if b == 60 then mode.Less else if b == 62 then mode.Greater
     else mode.Bad here
 
 -- the mode behind a byte outside of tokens that stands here
@@ -65,7 +66,6 @@ point_followed d point began b =
 
 -- the mode behind a further byte of a symbol; where it doesn't fit, no token begins at the symbol's first byte
 abbrev pub symbol_followed : Mode → Position → ℕ → Mode
-symbol_followed mode.Minus began b = if b == 62 then mode.Sign symbol.Arrow else mode.Bad began
 symbol_followed mode.Less began b = if b == 61 then mode.Sign symbol.LessEquals else if b == 45 then mode.LessMinus
     else mode.Bad began
 symbol_followed mode.LessMinus began b = if b == 62 then mode.Sign symbol.DoubleArrow else mode.Bad began
@@ -90,6 +90,8 @@ stepped_in (mode.Point d point) began here b = point_followed d point began b
 stepped_in (mode.Decimal d k) began here b =
     if is_digit b then continued (mode.Decimal (with_digit d b) (min (k + 1) MANY_DIGITS)) began
     else ended (token.Number (numeral.Decimal d k)) here b
+stepped_in mode.Minus began here b = if b == 62 then continued (mode.Sign symbol.Arrow) began
+    else ended (token.Sign symbol.Minus) here b
 stepped_in (mode.Sign s) began here b = ended (token.Sign s) here b
 stepped_in (mode.Bad p) began here b = continued (mode.Bad p) began
 stepped_in m began here b = continued (symbol_followed m began b) began
@@ -128,6 +130,7 @@ last_token (mode.Slash d slash) = Some (whole d)
 last_token (mode.Quotient d e) = Some (token.Number (numeral.Quotient d e))
 last_token (mode.Point d point) = Some (whole d)
 last_token (mode.Decimal d k) = Some (token.Number (numeral.Decimal d k))
+last_token mode.Minus = Some (token.Sign symbol.Minus)
 last_token (mode.Sign s) = Some (token.Sign s)
 last_token m = None
 
@@ -135,7 +138,6 @@ last_token m = None
 abbrev pub last_bad : Mode → Position → Option Position
 last_bad (mode.Slash d slash) began = Some slash
 last_bad (mode.Point d point) began = Some point
-last_bad mode.Minus began = Some began
 last_bad mode.Less began = Some began
 last_bad mode.LessMinus began = Some began
 last_bad mode.Greater began = Some began

@@ -3,13 +3,14 @@ ghost use Rattle.std.specs.Prelude.{◌≡◌, IsTrue};
 ghost use Rattle.ps_text.specs.Tokens.{is_digit as digit_byte};
 ghost use Rattle.ps_lex.specs.Counted.{no_digits, with_digit, IsCapped};
 
-use ps_text::{GREATEST_DENOMINATOR, MOST_DECIMALS};
+use ps_text::{GREATEST_DENOMINATOR, GREATEST_NUMBER, MOST_DECIMALS};
 
 /// The count that is kept of more digits than a number may have behind its point.
 pub const MANY_DIGITS: u8 = MOST_DECIMALS + 1;
 
-/// The value that is kept of digits whose value is greater than a denominator may be.
-pub const GREAT_VALUE: u32 = GREATEST_DENOMINATOR + 1;
+/// The value that is kept of digits whose value is greater than the one of a number may be, over
+/// the greatest denominator.
+pub const GREAT_VALUE: u64 = GREATEST_NUMBER as u64 * GREATEST_DENOMINATOR as u64 + 1;
 
 /// What counts of digits: how many there are and their value, `MANY_DIGITS` and `GREAT_VALUE` for
 /// more.
@@ -18,7 +19,7 @@ pub struct Digits {
     /// How many there are, or `MANY_DIGITS` if that is less.
     pub count: u8,
     /// Their value, or `GREAT_VALUE` if that is less.
-    pub value: u32,
+    pub value: u64,
 }
 
 impl Digits {
@@ -38,7 +39,7 @@ impl Digits {
     {
         Digits {
             count: (self.count + 1).min(MANY_DIGITS),
-            value: (10 * self.value + u32::from(digit - b'0')).min(GREAT_VALUE),
+            value: (10 * self.value + u64::from(digit - b'0')).min(GREAT_VALUE),
         }
     }
 }

@@ -154,7 +154,7 @@ impl Lexer {
         match self.mode {
             Mode::Slash { slash, .. } => Some(slash),
             Mode::Point { point, .. } => Some(point),
-            Mode::Minus | Mode::Less | Mode::LessMinus | Mode::Greater => Some(self.began),
+            Mode::Less | Mode::LessMinus | Mode::Greater => Some(self.began),
             Mode::Bad(place) => Some(place),
             _ => None,
         }

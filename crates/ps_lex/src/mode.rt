@@ -24,7 +24,7 @@ pub enum Mode {
     Point { whole: Digits, point: Position },
     /// Digits with a `.` among them, and how many stand behind it, `MANY_DIGITS` for more.
     Decimal { all: Digits, decimals: u8 },
-    /// A `-`.
+    /// A `-`, which is a symbol unless a `>` follows.
     Minus,
     /// A `<`.
     Less,
@@ -57,6 +57,7 @@ impl Mode {
                 all,
                 decimals,
             })),
+            Mode::Minus => Some(Token::Sign(Symbol::Minus)),
             Mode::Sign(symbol) => Some(Token::Sign(symbol)),
             _ => None,
         }

@@ -29,6 +29,7 @@ fn begin_symbol(here: Position, byte: u8) -> Mode
         b'&' => Mode::Sign(Symbol::Ampersand),
         b'|' => Mode::Sign(Symbol::Bar),
         b'=' => Mode::Sign(Symbol::Equals),
+        b'+' => Mode::Sign(Symbol::Plus),
         b'-' => Mode::Minus,
         b'<' => Mode::Less,
         b'>' => Mode::Greater,
@@ -193,6 +194,17 @@ fn step_decimal(all: Digits, decimals: u8, began: Position, here: Position, byte
     )
 }
 
+// A `-` goes on with a `>`, or else is a symbol of its own.
+fn step_minus(began: Position, here: Position, byte: u8) -> Step
+    ensures step { result ≡ stepped_in Mode.Minus began here byte }
+    ensures capped { IsCappedMode result.mode }
+{
+    if byte == b'>' {
+        return go_on(Mode::Sign(Symbol::Arrow), began);
+    }
+    end(Token::Sign(Symbol::Minus), here, byte)
+}
+
 // The mode behind the second or third byte of a symbol; where it doesn't fit, no token begins at the
 // first.
 fn follow_symbol(mode: Mode, began: Position, byte: u8) -> Mode
@@ -200,7 +212,6 @@ fn follow_symbol(mode: Mode, began: Position, byte: u8) -> Mode
     ensures capped { IsCappedMode result }
 {
     match (mode, byte) {
-        (Mode::Minus, b'>') => Mode::Sign(Symbol::Arrow),
         (Mode::Less, b'=') => Mode::Sign(Symbol::LessEquals),
         (Mode::Less, b'-') => Mode::LessMinus,
         (Mode::LessMinus, b'>') => Mode::Sign(Symbol::DoubleArrow),
@@ -234,6 +245,7 @@ pub(crate) fn step(mode: Mode, began: Position, here: Position, byte: u8) -> Ste
         Mode::Quotient { over, under } => step_quotient(over, under, began, here, byte),
         Mode::Point { whole, point } => step_point(whole, point, began, byte),
         Mode::Decimal { all, decimals } => step_decimal(all, decimals, began, here, byte),
+        Mode::Minus => step_minus(began, here, byte),
         Mode::Sign(symbol) => end(Token::Sign(symbol), here, byte),
         Mode::Bad(place) => go_on(Mode::Bad(place), began),
         mode => {

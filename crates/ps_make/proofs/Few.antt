@@ -109,7 +109,7 @@ links_stated (suc n) i before bounds m fs few e h =
     let same : i + 1 + n ≡ i + suc n = omega arith in
     record {
       gs = all.gs;
-      is = ap (λ b. at_item (before + 1) (if b then Err Bounds else with_formulas fs (link_formulas i)) (λ gs. with_statements (before + 1) (bounds + 1) gs rest)) some
+      is = ap (λ b. at_item (before + 1) (unless (if b then Some Bounds else None) (with_formulas fs (link_formulas i))) (λ gs. with_statements (before + 1) (bounds + 1) gs rest)) some
           ∙ ap (λ r. at_item (before + 1) r (λ gs. with_statements (before + 1) (bounds + 1) gs rest)) one.is ∙ all.is;
       holds = subst (Holds all.gs) same all.holds;
     }

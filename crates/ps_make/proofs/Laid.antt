@@ -3,7 +3,10 @@ use Rattle.std.proofs.Common.{◌≡◌, ℕ, zero, suc, ◌+◌, List, [], ◌�
 use Rattle.std.specs.Prelude.{codes, decimal}
 use Rattle.std.proofs.lemmas.Fmt.{decimal_digit, decimal_step}
 use Rattle.ps_meaning.specs.Statements.{Item}
-use Rattle.ps_make.specs.Chain.{first_item, link, links_from, asked_of, made_text}
+use Rattle.ps_make.specs.Chain.{first_item, link, links_from, asked_of, made_items, made_text}
+use Rattle.ps_text.specs.Grammar.{version_digits}
+use Rattle.ps_text.specs.Canonical.{version_for}
+use Rattle.ps_text.specs.declared.version.Version.TheVariants.{One}
 use Rattle.ps_make.specs.Lines.{arrow_text, line_of, lines_of}
 
 -- ---- numbers
@@ -63,13 +66,19 @@ pub link-more : (n : ℕ) (out new : List ℕ) → out ≡ front ++ lines_of (li
 link-more n out new e f =
     f ∙ ap (λ bs. bs ++ line_of (link n)) e ∙ append_assoc front (lines_of (links_from 0 n)) (line_of (link n)) ∙ ap (λ bs. front ++ bs) (sym (more-lines n))
 
+-- no sentence of a chain is linear
+chain-version : (n i m : ℕ) → version_for (links_from i n ++ asked_of m ∷ []) ≡ One
+chain-version zero i m = refl
+chain-version (suc n) i m = chain-version n (i + 1) m
+
 -- the whole text, by its lines
 pub text-is : (n : ℕ) → made_text n ≡ front ++ (lines_of (links_from 0 n) ++ (line_of (asked_of n) ++ codes "end;\n"))
 text-is n =
     let links = lines_of (links_from 0 n) in
     let last = line_of (asked_of n) in
     let end = codes "end;\n" in
-    ap (λ bs. codes "psat 1;\n" ++ bs) (append_assoc (line_of first_item) (lines_of (links_from 0 n ++ asked_of n ∷ [])) end)
+    ap (λ v. (codes "psat " ++ (version_digits v ++ codes ";\n")) ++ (lines_of (made_items n) ++ end)) (chain-version n 0 n)
+    ∙ ap (λ bs. codes "psat 1;\n" ++ bs) (append_assoc (line_of first_item) (lines_of (links_from 0 n ++ asked_of n ∷ [])) end)
     ∙ ap (λ bs. codes "psat 1;\n" ++ (line_of first_item ++ (bs ++ end))) (lines-append (links_from 0 n) (asked_of n ∷ []) ∙ ap (λ bs. links ++ bs) (append-nil last))
     ∙ ap (λ bs. codes "psat 1;\n" ++ (line_of first_item ++ bs)) (append_assoc links last end)
     ∙ sym (append_assoc (codes "psat 1;\n") (line_of first_item) (links ++ (last ++ end)))

@@ -1,16 +1,18 @@
 -- A chain's items are lawful.
-use Rattle.std.proofs.Common.{◌≡◌, ℕ, zero, suc, ◌+◌, ◌<◌, ◌≤◌, ◌^◌, ◌%◌, ◌==◌, Bool, true, false, ◌&&◌, ◌||◌, nat_le, List, [], ◌∷◌, ◌++◌, refl, ap, ◌∙◌, arith}
+use Rattle.std.proofs.Common.{◌≡◌, ℕ, zero, suc, ◌+◌, ◌<◌, ◌≤◌, ◌^◌, ◌%◌, ◌==◌, Bool, true, false, ◌&&◌, ◌||◌, nat_le, List, [], ◌∷◌, ◌++◌, All, refl, ap, ◌∙◌, arith}
 use Rattle.std.specs.Prelude.{decimal}
 use Rattle.std.specs.List.{list_all}
 use Rattle.std.proofs.lemmas.Bool.Decides.{nat_tests}
 use Rattle.std.proofs.lemmas.Fmt.{decimal_by_steps, length-decimal-le}
+use Rattle.std.proofs.lemmas.List.Elements.{All-nil, All-cons}
 use Rattle.std.proofs.lemmas.List.Folds.{list_all-append}
 use Rattle.std.proofs.lemmas.Nat.Gcd.{IsGcd-from_mod, IsGcd-from_zero, IsGcd-swap}
 use Rattle.ps_meaning.specs.Formula.{Implies}
 use Rattle.ps_meaning.specs.Names.{IsName, is_letter, is_digit, is_word_byte}
 use Rattle.ps_text.specs.Canonical.{IsReduced, IsWritable, AreLawful}
+use Rattle.ps_problem.specs.Drafts.{HasReducedValues}
 use Rattle.ps_make.specs.declared.made.TheConstants.{MOST_LINKS}
-use Rattle.ps_make.specs.Chain.{chain_atom, links_from, asked_of, made_items}
+use Rattle.ps_make.specs.Chain.{chain_atom, first_item, link, links_from, asked_of, made_items}
 use Rattle.ps_make.specs.Lines.{atom_name}
 
 -- ---- names
@@ -49,7 +51,7 @@ nine_tenths = record {
   lowest = IsGcd-swap 10 9 1 (IsGcd-from_mod 10 9 1 (IsGcd-from_mod 9 1 1 (IsGcd-from_zero 1 0 refl)));
   some = omega arith;
   small = omega arith;
-  probability = omega arith;
+  least = omega arith;
 }
 
 most_hundredths : IsReduced (record { num = 99; den = 100 })
@@ -57,7 +59,7 @@ most_hundredths = record {
   lowest = IsGcd-swap 100 99 1 (IsGcd-from_mod 100 99 1 (IsGcd-from_mod 99 1 1 (IsGcd-from_zero 1 0 refl)));
   some = omega arith;
   small = omega arith;
-  probability = omega arith;
+  least = omega arith;
 }
 
 -- ---- items
@@ -73,3 +75,11 @@ links_lawful (suc n) i m few last = ((link_writable i (omega (arith, few)), tt, 
 
 pub chain_lawful : (n : ℕ) → n ≤ MOST_LINKS → AreLawful (made_items n)
 chain_lawful n few = ((atom_writable 0 (omega arith), tt, nine_tenths, tt), links_lawful n 0 n (omega (arith, few)) few)
+
+-- the values are reduced, however long a chain is
+links_reduced : (n i m : ℕ) → All HasReducedValues (links_from i n ++ asked_of m ∷ [])
+links_reduced zero i m = All-cons HasReducedValues (asked_of m) [] tt (All-nil HasReducedValues)
+links_reduced (suc n) i m = All-cons HasReducedValues (link i) (links_from (i + 1) n ++ asked_of m ∷ []) (most_hundredths, tt) (links_reduced n (i + 1) m)
+
+pub chain_reduced : (n : ℕ) → All HasReducedValues (made_items n)
+chain_reduced n = All-cons HasReducedValues first_item (links_from 0 n ++ asked_of n ∷ []) (nine_tenths, tt) (links_reduced n 0 n)

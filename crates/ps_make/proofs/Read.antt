@@ -12,7 +12,7 @@ use Rattle.ps_read.specs.Readings.{SpellsWhole}
 use Rattle.ps_make.specs.declared.made.TheConstants.{MOST_LINKS}
 use Rattle.ps_make.specs.Chain.{first_item, link, links_from, asked_of, made_items, made_text, made_problem}
 use Rattle.ps_make.proofs.Few.{chain_few}
-use Rattle.ps_make.proofs.Lawful.{chain_lawful}
+use Rattle.ps_make.proofs.Lawful.{chain_lawful, chain_reduced}
 
 -- the text means the items
 chain_front : (n : ℕ) → n ≤ MOST_LINKS → IsTextOf (made_text n) (made_items n)
@@ -36,4 +36,4 @@ links_sorted (suc n) i m = ap (λ is. link i ∷ is) (links_sorted n (i + 1) m)
 
 -- the text is the problem's canonical text
 pub is_canonical : (n : ℕ) → canonical_text (items_from (made_problem n)) ≡ made_text n
-is_canonical n = ap canonical_text (items-back (made_items n) ∙ ap (λ is. first_item ∷ is) (links_sorted n 0 n))
+is_canonical n = ap canonical_text (items-back (made_items n) (chain_reduced n) ∙ ap (λ is. first_item ∷ is) (links_sorted n 0 n))

@@ -2,7 +2,7 @@
 use Rattle.std.specs.Prelude.{ℕ, zero, suc, ◌+◌, List, [], ◌∷◌, ◌++◌, None, codes, decimal}
 use Rattle.ps_meaning.specs.Formula.{Formula, Atom, Implies}
 use Rattle.ps_meaning.specs.declared.side.Side.TheVariants.{AtLeast}
-use Rattle.ps_meaning.specs.Statements.{Name, Item, Stated, Asked}
+use Rattle.ps_meaning.specs.Statements.{Name, Plain, Item, Stated, Asked}
 use Rattle.ps_text.specs.Canonical.{canonical_text}
 use Rattle.ps_problem.specs.Problems.{Parts}
 use Rattle.ps_problem.specs.Numbering.{problem_of}
@@ -13,13 +13,13 @@ chain_atom i = Atom (codes "x" ++ decimal i)
 
 -- a sentence: the probability of a formula is at least a fraction
 abbrev pub at_least : Formula Name → ℕ → ℕ → Item
-at_least f num den = Stated (record {
+at_least f num den = Stated (Plain (record {
   formula = f;
   given = None;
   side = AtLeast;
   value = record { num = num; den = den };
   upper = None;
-})
+}))
 
 -- the first atom is probable: `P(x0) >= 9/10`
 abbrev pub first_item : Item

@@ -1,6 +1,7 @@
 pub mod Integers
 pub mod Weights
 pub mod Rows
+pub mod BoundRows
 pub mod IntRing
 pub mod Ring
 pub mod ExactQuotient

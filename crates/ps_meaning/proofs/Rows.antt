@@ -6,7 +6,7 @@ use Rattle.ps_meaning.specs.Formula.{Formula, World, And, is_true}
 use Rattle.ps_meaning.specs.Distribution.{Entry, weight}
 use Rattle.ps_meaning.specs.declared.side.Side.{Side}
 use Rattle.ps_meaning.specs.declared.side.Side.TheVariants.{AtLeast, AtMost, Exactly}
-use Rattle.ps_meaning.specs.Bounds.{Bound, Compares, MeetsBound}
+use Rattle.ps_meaning.specs.Bounds.{PlainBound, Compares, MeetsPlain}
 use Rattle.ps_meaning.specs.Rows.{indicator, row_value, weighted_sum}
 use Rattle.ps_meaning.proofs.Integers.{mul_add, mul_sub, swap_mul, mul-zero, mul-one, mul-nonpos}
 
@@ -41,7 +41,7 @@ weighted_sum-nonpos (e ∷ d) F h low =
     omega (arith, ints)
 
 -- the sum of a bound's row
-pub weighted_sum-row : (b : Bound) (d : List Entry) → weighted_sum d (row_value b) ≡ (b.den *ℤ weight d (And b.formula b.given)) -ℤ (b.num *ℤ weight d b.given)
+pub weighted_sum-row : (b : PlainBound) (d : List Entry) → weighted_sum d (row_value b) ≡ (b.den *ℤ weight d (And b.formula b.given)) -ℤ (b.num *ℤ weight d b.given)
 weighted_sum-row b d = rw (
   weighted_sum-sub d (λ w. b.den *ℤ indicator (And b.formula b.given) w) (λ w. b.num *ℤ indicator b.given w),
   weighted_sum-scale d b.den (indicator (And b.formula b.given)),
@@ -57,5 +57,5 @@ compares-difference AtMost x y = ((λ h. omega (arith, ints)), (λ h. omega (ari
 compares-difference Exactly x y = ((λ h. omega (arith, ints)), (λ h. omega (arith, ints)))
 
 -- a bound is met where the sum of its row is on its side of 0
-pub meets_row : (b : Bound) (d : List Entry) → MeetsBound b d ↔ Compares b.side (weighted_sum d (row_value b)) (pos 0)
+pub meets_row : (b : PlainBound) (d : List Entry) → MeetsPlain b d ↔ Compares b.side (weighted_sum d (row_value b)) (pos 0)
 meets_row b d = rw (weighted_sum-row b d) (compares-difference b.side (b.den *ℤ weight d (And b.formula b.given)) (b.num *ℤ weight d b.given))

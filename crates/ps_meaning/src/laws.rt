@@ -3,6 +3,7 @@
 ghost use Rattle.std.specs.Prelude.{◌≡◌, ◌≢◌};
 ghost use Rattle.ps_meaning.specs.Rational.{Rational, add, mul, neg, zero_q, one_q, inverse};
 ghost use Rattle.ps_meaning.specs.Laws.{CommutativeRing, IsOrdered, SumsOfRationals, WeightedSums};
+ghost use Rattle.ps_meaning.specs.Rows.{BoundsAreRows};
 ghost use Rattle.ps_meaning.specs.Laws.{CommonMultiples, ScaledNumbers, ZerosAreNarrow};
 
 /// The rational numbers are a field.
@@ -41,4 +42,9 @@ pub fn scaled_laws()
 /// Products with 0, and sums and differences of a fraction and 0, are never refused.
 pub fn zero_laws()
     ensures narrow { ZerosAreNarrow }
+{}
+
+/// A bound, plain or linear, is met by exactly the distributions that meet its row.
+pub fn row_laws()
+    ensures rows { BoundsAreRows }
 {}

@@ -8,7 +8,7 @@ mod limits;
 mod side;
 
 pub use laws::{
-    field_laws, lcm_laws, order_laws, scaled_laws, sum_laws, weighted_sum_laws, zero_laws,
+    field_laws, lcm_laws, order_laws, row_laws, scaled_laws, sum_laws, weighted_sum_laws, zero_laws,
 };
 pub use limits::{LONGEST_NAME, PRINTED_LIMIT, limits_have_these_numbers};
 pub use side::Side;

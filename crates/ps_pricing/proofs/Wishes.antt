@@ -1,5 +1,6 @@
--- The literals that make all bounds hold alone.
-use Rattle.std.proofs.Common.{◌≡◌, ◌<◌, ◌+◌, ◌++◌, ◌∷◌, [], ℕ, ℤ, pos, Bool, List, All, length, arith}
+-- The literals of nodes that make all rows hold alone.
+use Rattle.std.proofs.Common.{◌≡◌, ◌<◌, ◌+◌, ◌++◌, ◌∷◌, [], ℕ, ℤ, pos, Bool, List, All, length, subst, arith}
+use Rattle.std.specs.Prelude.{IsSomeAnd, slice_get}
 use Rattle.std.proofs.lemmas.List.Elements.{All-nil, All-append, All-cons}
 use Rattle.ps_pb.specs.Assignments.{literal_at, place}
 use Rattle.ps_pb.specs.Constraints.{Constraint}
@@ -9,8 +10,8 @@ use Rattle.ps_pb.proofs.Clauses.{place_of}
 use Rattle.ps_pb.proofs.Full.{Below}
 use Rattle.ps_pb.proofs.Within.{constraint-within}
 use Rattle.ps_formula.specs.declared.node.Node.{Node}
-use Rattle.ps_problem.specs.declared.bound.Bound.{Bound}
-use Rattle.ps_problem.specs.Problems.{AreBounds}
+use Rattle.ps_problem.specs.declared.row.Row.{Row}
+use Rattle.ps_problem.specs.Rows.{IsRow}
 
 -- one more literal of these variables
 pub one-more : (n p : ℕ) (s : Bool) (l : ℤ) (ts us : Weighted) → us ≡ ts ++ (l, pos 1) ∷ [] → l ≡ literal_at p s → p < n → All (Below n) ts → All (Below n) us
@@ -26,6 +27,11 @@ one-larger l ts us i e h = rw e (omega (arith, size_sum-append ts ((l, pos 1) �
 pub goal-inside : (n : ℕ) (g : Constraint) (ts us : Weighted) (least : ℤ) → g ≡ constraint_of ts least → ts ≡ us → All (Below n) us → IsWithin n g
 goal-inside n g ts us least e q h = rw (e, q) (constraint-within n us least h)
 
--- the nodes of bounds are there
-pub nodes-inside : (ns : List Node) (bs cs : List Bound) (n : ℕ) → cs ≡ bs → n ≡ length ns → AreBounds ns bs → All (λ b. b.both < n) cs
-nodes-inside ns bs cs n e q are = rw (e, q) (λ i d lt. (are i d lt).nodes.both_there)
+-- the nodes of rows are there
+pub nodes-inside : (ns : List Node) (rs ss : List Row) (n : ℕ) → ss ≡ rs → n ≡ length ns → All (IsRow ns) rs → All (λ r. All (λ t. t.0 < n) r.terms) ss
+nodes-inside ns rs ss n e q are = rw (e, q) (λ i r lt. (are i r lt).nodes)
+
+-- and so is that of a first term
+pub first-inside : (n node : ℕ) (ts : List (ℕ × ℤ)) → IsSomeAnd (slice_get ts 0) (λ t. t.0 ≡ node) → All (λ t. t.0 < n) ts → node < n
+first-inside n node [] is inside = absurd is
+first-inside n node (t ∷ ts) is inside = subst (λ k. k < n) is (inside 0 t (omega arith))

@@ -7,7 +7,8 @@ use Rattle.ps_pb.specs.Steps.{Step}
 use Rattle.ps_clause.specs.Forms.{form_of}
 use Rattle.ps_clause.specs.Extensions.{extension, IsWorldOf}
 use Rattle.ps_problem.specs.declared.query.Query.{Query}
-use Rattle.ps_problem.specs.Problems.{Parts, bounds_in}
+use Rattle.ps_problem.specs.Problems.{Parts}
+use Rattle.ps_problem.specs.Rows.{rows_in}
 use Rattle.ps_answer.specs.declared.answer.Dual.{Dual}
 use Rattle.ps_claims.specs.declared.claim_kind.ClaimKind.{ClaimKind}
 use Rattle.ps_claims.specs.declared.weighted_sum.Combination.{Combination}
@@ -43,9 +44,9 @@ asking q a = record { subject = record { parts = a.subject.parts; query = Some q
 abbrev pub IsAssigned : Subject → Assignment → World → Type 0
 IsAssigned s a world = (values : List Bool) → a ≡ full values → IsWorldOf (atoms_of s) s.parts.nodes values world
 
--- the dual has a multiplier for each bound, and its numbers are small enough to be printed
+-- the dual has a multiplier for each row, and its numbers are small enough to be printed
 pub record IsDualFor (p : Parts) (d : Dual) : Type 0 where
-  pub rows : length d.rows ≡ length (bounds_in p.sentences)
+  pub rows : length d.rows ≡ length (rows_in p.sentences)
   pub small : IsSmallDual d
 
 -- ---- combinations

@@ -3,7 +3,6 @@
 #![tactic(auto)]
 
 mod alone;
-mod kept;
 mod pricer;
 mod pricing;
 mod sought;

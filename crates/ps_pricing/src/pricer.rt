@@ -1,6 +1,7 @@
 //! The pricing of a problem's duals.
 ghost use Rattle.std.specs.Prelude.{◌≡◌, ◌≤◌, length, IfOk};
-ghost use Rattle.ps_problem.specs.Problems.{AreParts, bounds_in};
+ghost use Rattle.ps_problem.specs.Problems.{AreParts};
+ghost use Rattle.ps_problem.specs.Rows.{rows_in};
 ghost use Rattle.ps_log.specs.declared.limits.TheConstants.{MOST_CONFLICTS};
 ghost use Rattle.ps_maxsat.specs.Limits.{IsNarrow, IsSoftWithin};
 ghost use Rattle.ps_runs.specs.Kept.{IsChoice};
@@ -9,7 +10,6 @@ ghost use Rattle.ps_pricing.specs.Pricings.{IsAssigned, IsDualFor, IsPricing};
 ghost use Rattle.ps_pricing.specs.Pricings.{IsPrintedPricing, IsWcnf, asking, priced_over};
 
 use crate::alone::first_world;
-use crate::kept::{bounds_of, kept_sentences};
 use crate::pricing::Pricing;
 use crate::sought::{Sought, seek};
 use ps_answer::Dual;
@@ -20,18 +20,19 @@ use ps_io::{List, NoMemory};
 use ps_log::is_goal_within;
 use ps_maxsat::{Priced, Wcnf};
 use ps_pb::{Assignment, Steps, from_weights};
-use ps_problem::{Bound, Problem, Query, Sentences};
+use ps_problem::{Problem, Query, Row};
+use ps_runs::kept_rows;
 use std::alloc::Global;
 use std::marker::Model;
 
-/// What duals are priced over: the kept sentences of a problem with their bounds, the clause form
+/// What duals are priced over: which sentences of a problem are kept, their rows, the clause form
 /// of the problem's nodes, and a query, or none; how many clauses a search may learn, and with which
 /// values it begins.
 #[derive(Drop)]
 pub struct Pricer<'p> {
     problem: &'p Problem,
-    sentences: Sentences,
-    bounds: List<Bound>,
+    kept: List<bool>,
+    rows: List<Row>,
     form: ClauseForm,
     query: Option<Query>,
     conflicts: u64,
@@ -40,23 +41,25 @@ pub struct Pricer<'p> {
 
 impl<'p> Model for Pricer<'p> {
     ghost use Rattle.std.specs.Prelude.{◌≡◌, ◌≤◌};
-    ghost use Rattle.ps_problem.specs.Problems.{AreParts, bounds_in};
+    ghost use Rattle.ps_problem.specs.Problems.{AreParts};
+    ghost use Rattle.ps_problem.specs.Rows.{rows_in};
     ghost use Rattle.ps_clause.specs.Forms.{form_of};
-    ghost use Rattle.ps_runs.specs.Kept.{with_sentences};
+    ghost use Rattle.ps_runs.specs.Kept.{IsChoice, kept_parts};
     ghost use Rattle.ps_log.specs.declared.limits.TheConstants.{MOST_CONFLICTS};
     ghost use Rattle.ps_pricing.specs.Pricings.{PricingSubject};
 
     ghost Value = { PricingSubject };
 
     ghost view = { λ p. record {
-      subject = record { parts = with_sentences p.problem.now p.sentences; query = p.query };
+      subject = record { parts = kept_parts p.kept p.problem.now; query = p.query };
       conflicts = p.conflicts;
     } };
 
     ghost invariant = { λ p.
         (p.form ≡ form_of p.problem.now.nodes) × (p.conflicts ≤ MOST_CONFLICTS)
-        × (p.bounds ≡ bounds_in p.sentences)
-        × AreParts (with_sentences p.problem.now p.sentences) };
+        × IsChoice p.kept p.problem.now
+        × (p.rows ≡ rows_in (kept_parts p.kept p.problem.now).sentences)
+        × AreParts (kept_parts p.kept p.problem.now) };
 }
 
 impl<'p> Pricer<'p> {
@@ -73,15 +76,14 @@ impl<'p> Pricer<'p> {
         ensures value { IfOk result (λ p. p ≡ priced_over problem.now kept.now query conflicts) }
     {
         // Called for its clauses: the problem is within the limits, and its numbers are in range.
-        let _sound = problem.bound_list();
-        let sentences = kept_sentences(alloc, problem.sentences().as_slice(), kept)?;
-        let bounds = bounds_of(alloc, sentences.as_slice())?;
+        let _sound = problem.rows();
+        let rows = kept_rows(alloc, problem, kept)?;
         let form = clauses_of(alloc, problem.formulas())?;
         Ok(Pricer {
-            first: first_world(alloc, &form, bounds.as_slice(), conflicts)?,
+            first: first_world(alloc, &form, rows.as_slice(), conflicts)?,
             problem,
-            bounds,
-            sentences,
+            kept: List::from_vec(kept.to_vec(alloc)?),
+            rows,
             form,
             query,
             conflicts,
@@ -94,8 +96,8 @@ impl<'p> Pricer<'p> {
     {
         Ok(Pricer {
             problem: self.problem,
-            sentences: List::from_vec(self.sentences.as_slice().to_vec(alloc)?),
-            bounds: List::from_vec(self.bounds.as_slice().to_vec(alloc)?),
+            kept: List::from_vec(self.kept.as_slice().to_vec(alloc)?),
+            rows: kept_rows(alloc, self.problem, self.kept.as_slice())?,
             form: self.form.copy(alloc)?,
             query: Some(query),
             conflicts: self.conflicts,
@@ -103,12 +105,12 @@ impl<'p> Pricer<'p> {
         })
     }
 
-    /// The bounds of the kept sentences.
-    pub fn bounds(&self) -> &[Bound]
-        ensures bounds { result.now ≡ bounds_in self.now.subject.parts.sentences }
+    /// The rows of the bounds of the kept sentences.
+    pub fn rows(&self) -> &[Row]
+        ensures rows { result.now ≡ rows_in self.now.subject.parts.sentences }
         ensures parts { AreParts self.now.subject.parts }
     {
-        self.bounds.as_slice()
+        self.rows.as_slice()
     }
 
     /// The node of the query's evidence; none without a query, or where nothing is given.
@@ -123,7 +125,8 @@ impl<'p> Pricer<'p> {
 
     /// The node of the query with its evidence, and 0 without a query.
     pub fn both(&self) -> u32
-        ensures { result ≡ both_in self.now.subject.query }
+        ensures value { result ≡ both_in self.now.subject.query }
+        ensures parts { AreParts self.now.subject.parts }
     {
         match self.query {
             Some(query) => query.both,
@@ -139,9 +142,9 @@ impl<'p> Pricer<'p> {
         ensures narrow { IfOk result IsNarrow }
         ensures within { IfOk result IsSoftWithin }
     {
-        let bounds = self.bounds();
+        let rows = self.rows();
         let (given, both) = (self.evidence(), self.both());
-        let Combination { terms, base } = combination_of(alloc, bounds, kind, given, both, dual)?;
+        let Combination { terms, base } = combination_of(alloc, rows, kind, given, both, dual)?;
         Ok(Wcnf {
             hard: self.form.copy(alloc)?,
             soft: terms,
@@ -172,7 +175,7 @@ impl<'p> Pricer<'p> {
     {
         // Called for its clauses: the problem of the kept sentences is within the limits, and its
         // numbers are in range.
-        let _sound = self.bounds();
+        let _sound = self.rows();
         let wcnf = self.wcnf(alloc, kind, &dual)?;
         let Sought { priced, steps } = seek(alloc, &wcnf, &self.first, self.conflicts)?;
         match priced {

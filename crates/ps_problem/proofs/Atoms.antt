@@ -181,6 +181,7 @@ module _ (names : List Name) (atoms : List ℕ) (nodes : List Node) (h : Built n
     atom-refused few new (fault.TooMany excess.Atoms) added = absurd added
     atom-refused few new (fault.TooMany excess.Bounds) added = absurd added
     atom-refused few new (fault.TooMany excess.Queries) added = absurd added
+    atom-refused few new (fault.TooMany excess.Numbers) added = absurd added
     atom-refused few new (fault.TooMany excess.Nodes) added =
         let l = length-nodes names atoms nodes h (Atom (name_at names k)) in
         let full : length h.formulas ≡ MOST_NODES = sym l ∙ added.0 in

@@ -14,8 +14,15 @@ pub mod Orders
 pub mod Parts
 pub mod Stated
 pub mod Values
+pub mod Scales
 pub mod Growth
 pub mod Making
 pub mod Copied
+pub mod InLowestTerms
+pub mod Terms
+pub mod RowSums
+pub mod BoundRows
+pub mod Large
+pub mod BoundPlaces
 pub mod Writing
 pub mod Reread

@@ -1,5 +1,5 @@
 -- Going through the items of a draft, first for its statements and then for its questions.
-use Rattle.std.proofs.Common.{◌≡◌, ℕ, ◌+◌, ◌<◌, ◌≤◌, Bool, true, false, nat_lt, List, [], ◌∷◌, ◌++◌, Some, Ok, Err, length, map, take, drop, slice_get, refl, sym, ap, subst, ◌∙◌, arith, if◌then◌else◌}
+use Rattle.std.proofs.Common.{◌≡◌, ℕ, ◌+◌, ◌<◌, ◌≤◌, Bool, true, false, nat_lt, List, [], ◌∷◌, ◌++◌, Option, Some, None, Ok, Err, length, map, take, drop, slice_get, refl, sym, ap, subst, ◌∙◌, arith, if◌then◌else◌}
 use Rattle.std.proofs.lemmas.List.{take_more, take_all, drop_more, drop_all, length-append, length_push, append-nil}
 use Rattle.std.proofs.lemmas.List.Elements.{All-nil}
 use Rattle.std.proofs.lemmas.Option.{slice_get_within, get_or_from_slice_get}
@@ -12,15 +12,17 @@ use Rattle.ps_problem.specs.declared.fault.Fault.TheVariants as fault
 use Rattle.ps_problem.specs.declared.building.Building.{Building}
 use Rattle.ps_problem.specs.declared.assembly.Assembly.{Assembly}
 use Rattle.ps_problem.specs.Drafts.{Drafted}
-use Rattle.ps_problem.specs.Problems.{parts_of, bounds_in}
-use Rattle.ps_problem.specs.Numbering.{AreOnce, same_name, names_among, sentence_in, query_in, numbered_for, problem_of, formulas_of, node_in}
-use Rattle.ps_problem.specs.declared.excess.Excess.TheVariants.{Bounds, Queries}
-use Rattle.ps_problem.specs.Counts.{count_bounds, with_formulas, at_item, with_statements, with_questions, after, counted}
-use Rattle.ps_problem.specs.Numbered.{AreOperandsAmong, HasQuestion, GivesQuery, IsFaultOf}
+use Rattle.ps_problem.specs.Problems.{parts_of}
+use Rattle.ps_problem.specs.Rows.{rows_in}
+use Rattle.ps_problem.specs.Numbering.{AreOnce, same_name, names_among, sentence_in, query_in, numbered_for, numbered_in, problem_of, formulas_of, node_in}
+use Rattle.ps_problem.specs.declared.excess.Excess.TheVariants.{Bounds, Queries, Numbers}
+use Rattle.ps_problem.specs.declared.excess.Excess.{Excess}
+use Rattle.ps_problem.specs.Counts.{count_bounds, has_large_numbers, statement_excess, unless, with_formulas, at_item, with_statements, with_questions, after, counted}
+use Rattle.ps_problem.specs.Numbered.{Built, AreOperandsAmong, HasQuestion, GivesQuery, IsFaultOf}
 use Rattle.ps_problem.specs.Problems.{name_at}
-use Rattle.ps_problem.specs.Making.{HasItems, SentencesMade, QueriesMade, IsExcess, question_on}
+use Rattle.ps_problem.specs.Making.{HasItems, HasStatement, SentencesMade, QueriesMade, IsExcess, question_on}
 use Rattle.ps_problem.proofs.Turns.{with-more}
-use Rattle.ps_problem.proofs.Growth.{length-bounds, holds-more, holds-statement, holds-question}
+use Rattle.ps_problem.proofs.Growth.{length-rows, holds-more, holds-statement, holds-question}
 use Rattle.ps_problem.proofs.Counted.{counted-formulas}
 
 statements-append : (xs ys : List Item) → statements_of (xs ++ ys) ≡ statements_of xs ++ statements_of ys
@@ -47,60 +49,69 @@ module _ (d : Drafted) where
     pub stating-skip : (q : Question) → slice_get d.items i ≡ Some (Asked q) → SentencesMade d (i + 1) a
     stating-skip q at = record {
       built = r.built;
-      holds = subst (λ ss. HasItems r.built.formulas ss [] a.sentences a.bounds a.queries)
+      holds = subst (λ ss. HasItems r.built.formulas ss [] a.sentences a.rows a.queries)
           (sym (ap statements_of (done-at d.items i (Asked q) at) ∙ statements-append (take i d.items) (Asked q ∷ []) ∙ append-nil (statements_of (take i d.items)))) r.holds;
-      rest = ap (λ xs. after (with_statements i (length a.bounds) r.built.formulas xs) (λ fs. with_questions 0 0 fs d.items)) (sym (left-at d.items i (Asked q) at)) ∙ r.rest;
+      rest = ap (λ xs. after (with_statements i (length a.rows) r.built.formulas xs) (λ fs. with_questions 0 0 fs d.items)) (sym (left-at d.items i (Asked q) at)) ∙ r.rest;
     }
 
     module _ (s : Statement) (at : slice_get d.items i ≡ Some (Stated s)) where
-      turn : after (with_statements i (length a.bounds) r.built.formulas (Stated s ∷ drop (i + 1) d.items)) (λ fs. with_questions 0 0 fs d.items) ≡ counted d.items
-      turn = ap (λ xs. after (with_statements i (length a.bounds) r.built.formulas xs) (λ fs. with_questions 0 0 fs d.items)) (sym (left-at d.items i (Stated s) at)) ∙ r.rest
+      turn : after (with_statements i (length a.rows) r.built.formulas (Stated s ∷ drop (i + 1) d.items)) (λ fs. with_questions 0 0 fs d.items) ≡ counted d.items
+      turn = ap (λ xs. after (with_statements i (length a.rows) r.built.formulas xs) (λ fs. with_questions 0 0 fs d.items)) (sym (left-at d.items i (Stated s) at)) ∙ r.rest
 
-      split : (b : Bool) → nat_lt MOST_BOUNDS (length a.bounds + count_bounds s) ≡ b
-          → after (at_item (i + 1) (if b then Err Bounds else with_formulas r.built.formulas (numbered_for s.formula s.given)) (λ gs. with_statements (i + 1) (length a.bounds + count_bounds s) gs (drop (i + 1) d.items))) (λ fs. with_questions 0 0 fs d.items)
+      split : (o : Option Excess) → statement_excess (length a.rows) s ≡ o
+          → after (at_item (i + 1) (unless o (with_formulas r.built.formulas (numbered_in s))) (λ gs. with_statements (i + 1) (length a.rows + count_bounds s) gs (drop (i + 1) d.items))) (λ fs. with_questions 0 0 fs d.items)
           ≡ counted d.items
-      split b e = ap (λ c. after (at_item (i + 1) (if c then Err Bounds else with_formulas r.built.formulas (numbered_for s.formula s.given)) (λ gs. with_statements (i + 1) (length a.bounds + count_bounds s) gs (drop (i + 1) d.items))) (λ fs. with_questions 0 0 fs d.items)) (sym e) ∙ turn
+      split o e = ap (λ c. after (at_item (i + 1) (unless c (with_formulas r.built.formulas (numbered_in s))) (λ gs. with_statements (i + 1) (length a.rows + count_bounds s) gs (drop (i + 1) d.items))) (λ fs. with_questions 0 0 fs d.items)) (sym e) ∙ turn
 
-      -- its bounds are too many
-      pub stating-full : MOST_BOUNDS < length a.bounds + count_bounds s → counted d.items ≡ Err (record { excess = Bounds; item = i + 1 })
-      stating-full lt = sym (split true (grind (arith, nat_tests)))
+      excess-is : (l c : Bool) → has_large_numbers s ≡ l → nat_lt MOST_BOUNDS (length a.rows + count_bounds s) ≡ c
+          → statement_excess (length a.rows) s ≡ (if l then Some Numbers else (if c then Some Bounds else None))
+      excess-is l c p q = ap (λ x. if x then Some Numbers else (if nat_lt MOST_BOUNDS (length a.rows + count_bounds s) then Some Bounds else None)) p
+          ∙ ap (λ x. if l then Some Numbers else (if x then Some Bounds else None)) q
 
-      module _ (few : length a.bounds + count_bounds s ≤ MOST_BOUNDS) where
-        fits : after (at_item (i + 1) (with_formulas r.built.formulas (numbered_for s.formula s.given)) (λ gs. with_statements (i + 1) (length a.bounds + count_bounds s) gs (drop (i + 1) d.items))) (λ fs. with_questions 0 0 fs d.items)
-            ≡ counted d.items
-        fits = split false (grind (arith, nat_tests))
+      -- its numbers are too large
+      pub stating-large : has_large_numbers s ≡ true → counted d.items ≡ Err (record { excess = Numbers; item = i + 1 })
+      stating-large large = sym (split (Some Numbers) (excess-is true (nat_lt MOST_BOUNDS (length a.rows + count_bounds s)) large refl))
 
-        -- its formulas don't fit
-        pub stating-stop : (x : Fault) → IsFaultOf (with_formulas r.built.formulas (numbered_for s.formula s.given)) x → IsExcess d.items (i + 1) x
-        stating-stop x t = by x t
-          where
-            by : (x : Fault) → IsFaultOf (with_formulas r.built.formulas (numbered_for s.formula s.given)) x → IsExcess d.items (i + 1) x
-            by fault.NoMemory t = tt
-            by (fault.TooMany e) t = sym fits ∙ ap (λ w. after (at_item (i + 1) w (λ gs. with_statements (i + 1) (length a.bounds + count_bounds s) gs (drop (i + 1) d.items))) (λ fs. with_questions 0 0 fs d.items)) t
+      module _ (small : has_large_numbers s ≡ false) where
+        -- its bounds are too many
+        pub stating-full : MOST_BOUNDS < length a.rows + count_bounds s → counted d.items ≡ Err (record { excess = Bounds; item = i + 1 })
+        stating-full lt = let t : nat_lt MOST_BOUNDS (length a.rows + count_bounds s) ≡ true = grind (arith, nat_tests) in sym (split (Some Bounds) (excess-is false true small t))
 
-        pub stating-next : (b : Building) (query : Query)
-            → (f : GivesQuery d.names (with_formulas r.built.formulas (numbered_for s.formula s.given)) (question_on s) b.atoms b.formulas (Ok query))
-            → SentencesMade d (i + 1) (record { building = b; sentences = a.sentences ++ sentence_in f.0.formulas s ∷ []; bounds = a.bounds ++ bounds_in (sentence_in f.0.formulas s ∷ []); queries = a.queries })
-        stating-next b query f =
-            let more = with-more r.built.formulas (numbered_for s.formula s.given) f.0.formulas f.1 in
-            let kept = subst (λ gs. HasItems gs (statements_of (take i d.items)) [] a.sentences a.bounds a.queries) (sym more.1)
-            (holds-more r.built.formulas (statements_of (take i d.items)) [] a.sentences a.bounds a.queries r.holds more.0) in
-            let n = length-append a.bounds (bounds_in (sentence_in f.0.formulas s ∷ [])) ∙ ap (λ k. length a.bounds + k) (length-bounds f.0.formulas s) in
-            record {
-              built = f.0;
-              holds = subst (λ ss. HasItems f.0.formulas ss [] (a.sentences ++ sentence_in f.0.formulas s ∷ []) (a.bounds ++ bounds_in (sentence_in f.0.formulas s ∷ [])) a.queries)
-                  (sym (ap statements_of (done-at d.items i (Stated s) at) ∙ statements-append (take i d.items) (Stated s ∷ [])))
-                  (holds-statement f.0.formulas (statements_of (take i d.items)) [] a.sentences a.bounds a.queries kept s f.2);
-              rest = ap (λ k. after (with_statements (i + 1) k f.0.formulas (drop (i + 1) d.items)) (λ fs. with_questions 0 0 fs d.items)) n
-                  ∙ sym (ap (λ w. after (at_item (i + 1) w (λ gs. with_statements (i + 1) (length a.bounds + count_bounds s) gs (drop (i + 1) d.items))) (λ fs. with_questions 0 0 fs d.items)) f.1) ∙ fits;
-            }
+        module _ (few : length a.rows + count_bounds s ≤ MOST_BOUNDS) where
+          fits : after (at_item (i + 1) (with_formulas r.built.formulas (numbered_in s)) (λ gs. with_statements (i + 1) (length a.rows + count_bounds s) gs (drop (i + 1) d.items))) (λ fs. with_questions 0 0 fs d.items)
+              ≡ counted d.items
+          fits = let t : nat_lt MOST_BOUNDS (length a.rows + count_bounds s) ≡ false = grind (arith, nat_tests) in split None (excess-is false false small t)
+
+          -- its formulas don't fit
+          pub stating-stop : (x : Fault) → IsFaultOf (with_formulas r.built.formulas (numbered_in s)) x → IsExcess d.items (i + 1) x
+          stating-stop x t = by x t
+            where
+              by : (x : Fault) → IsFaultOf (with_formulas r.built.formulas (numbered_in s)) x → IsExcess d.items (i + 1) x
+              by fault.NoMemory t = tt
+              by (fault.TooMany e) t = sym fits ∙ ap (λ w. after (at_item (i + 1) w (λ gs. with_statements (i + 1) (length a.rows + count_bounds s) gs (drop (i + 1) d.items))) (λ fs. with_questions 0 0 fs d.items)) t
+
+          pub stating-next : (b : Building) (h : Built d.names b.atoms b.formulas) → with_formulas r.built.formulas (numbered_in s) ≡ Ok h.formulas → HasStatement h.formulas s
+              → SentencesMade d (i + 1) (record { building = b; sentences = a.sentences ++ sentence_in h.formulas s ∷ []; rows = a.rows ++ rows_in (sentence_in h.formulas s ∷ []); queries = a.queries })
+          stating-next b h expected there =
+              let more = with-more r.built.formulas (numbered_in s) h.formulas expected in
+              let kept = subst (λ gs. HasItems gs (statements_of (take i d.items)) [] a.sentences a.rows a.queries) (sym more.1)
+              (holds-more r.built.formulas (statements_of (take i d.items)) [] a.sentences a.rows a.queries r.holds more.0) in
+              let n = length-append a.rows (rows_in (sentence_in h.formulas s ∷ [])) ∙ ap (λ k. length a.rows + k) (length-rows h.formulas s) in
+              record {
+                built = h;
+                holds = subst (λ ss. HasItems h.formulas ss [] (a.sentences ++ sentence_in h.formulas s ∷ []) (a.rows ++ rows_in (sentence_in h.formulas s ∷ [])) a.queries)
+                    (sym (ap statements_of (done-at d.items i (Stated s) at) ∙ statements-append (take i d.items) (Stated s ∷ [])))
+                    (holds-statement h.formulas (statements_of (take i d.items)) [] a.sentences a.rows a.queries kept s there);
+                rest = ap (λ k. after (with_statements (i + 1) k h.formulas (drop (i + 1) d.items)) (λ fs. with_questions 0 0 fs d.items)) n
+                    ∙ sym (ap (λ w. after (at_item (i + 1) w (λ gs. with_statements (i + 1) (length a.rows + count_bounds s) gs (drop (i + 1) d.items))) (λ fs. with_questions 0 0 fs d.items)) expected) ∙ fits;
+              }
 
   module _ (i : ℕ) (a : Assembly) (r : QueriesMade d i a) where
     -- the item is a statement
     pub asking-skip : (s : Statement) → slice_get d.items i ≡ Some (Stated s) → QueriesMade d (i + 1) a
     asking-skip s at = record {
       built = r.built;
-      holds = subst (λ qs. HasItems r.built.formulas (statements_of d.items) qs a.sentences a.bounds a.queries)
+      holds = subst (λ qs. HasItems r.built.formulas (statements_of d.items) qs a.sentences a.rows a.queries)
           (sym (ap questions_of (done-at d.items i (Stated s) at) ∙ questions-append (take i d.items) (Stated s ∷ []) ∙ append-nil (questions_of (take i d.items)))) r.holds;
       rest = ap (with_questions i (length a.queries) r.built.formulas) (sym (left-at d.items i (Stated s) at)) ∙ r.rest;
     }
@@ -129,23 +140,23 @@ module _ (d : Drafted) where
 
         pub asking-next : (b : Building) (query : Query)
             → GivesQuery d.names (with_formulas r.built.formulas (numbered_for q.formula q.given)) q b.atoms b.formulas (Ok query)
-            → QueriesMade d (i + 1) (record { building = b; sentences = a.sentences; bounds = a.bounds; queries = a.queries ++ query ∷ [] })
+            → QueriesMade d (i + 1) (record { building = b; sentences = a.sentences; rows = a.rows; queries = a.queries ++ query ∷ [] })
         asking-next b query f =
             let more = with-more r.built.formulas (numbered_for q.formula q.given) f.0.formulas f.1 in
-            let kept = subst (λ gs. HasItems gs (statements_of d.items) (questions_of (take i d.items)) a.sentences a.bounds a.queries) (sym more.1)
-            (holds-more r.built.formulas (statements_of d.items) (questions_of (take i d.items)) a.sentences a.bounds a.queries r.holds more.0) in
+            let kept = subst (λ gs. HasItems gs (statements_of d.items) (questions_of (take i d.items)) a.sentences a.rows a.queries) (sym more.1)
+            (holds-more r.built.formulas (statements_of d.items) (questions_of (take i d.items)) a.sentences a.rows a.queries r.holds more.0) in
             record {
               built = f.0;
-              holds = subst (λ qs. HasItems f.0.formulas (statements_of d.items) qs a.sentences a.bounds (a.queries ++ query ∷ []))
+              holds = subst (λ qs. HasItems f.0.formulas (statements_of d.items) qs a.sentences a.rows (a.queries ++ query ∷ []))
                   (sym (ap questions_of (done-at d.items i (Asked q) at) ∙ questions-append (take i d.items) (Asked q ∷ [])))
-                  (subst (λ x. HasItems f.0.formulas (statements_of d.items) (questions_of (take i d.items) ++ q ∷ []) a.sentences a.bounds (a.queries ++ x ∷ [])) (sym f.3)
-                  (holds-question f.0.formulas (statements_of d.items) (questions_of (take i d.items)) a.sentences a.bounds a.queries kept q f.2));
+                  (subst (λ x. HasItems f.0.formulas (statements_of d.items) (questions_of (take i d.items) ++ q ∷ []) a.sentences a.rows (a.queries ++ x ∷ [])) (sym f.3)
+                  (holds-question f.0.formulas (statements_of d.items) (questions_of (take i d.items)) a.sentences a.rows a.queries kept q f.2));
               rest = ap (λ k. with_questions (i + 1) k f.0.formulas (drop (i + 1) d.items)) (length_push a.queries query)
                   ∙ sym (ap (λ w. at_item (i + 1) w (λ gs. with_questions (i + 1) (length a.queries + 1) gs (drop (i + 1) d.items))) f.1) ∙ asked-fits;
             }
 
   -- before the first item
-  pub stating-start : AreOnce same_name d.names → SentencesMade d 0 (record { building = record { atoms = []; formulas = [] }; sentences = []; bounds = []; queries = [] })
+  pub stating-start : AreOnce same_name d.names → SentencesMade d 0 (record { building = record { atoms = []; formulas = [] }; sentences = []; rows = []; queries = [] })
   stating-start once = record {
     built = record {
       formulas = [];
@@ -159,10 +170,10 @@ module _ (d : Drafted) where
       few = omega arith;
     };
     holds = record {
-      stated_there = All-nil (λ s. HasQuestion [] (question_on s));
+      stated_there = All-nil (HasStatement []);
       asked_there = All-nil (HasQuestion []);
       sentences_are = refl;
-      bounds_are = refl;
+      rows_are = refl;
       queries_are = refl;
     };
     rest = refl;
@@ -172,9 +183,9 @@ module _ (d : Drafted) where
   pub asking-start : (a : Assembly) → SentencesMade d (length d.items) a → QueriesMade d 0 a
   asking-start a r = record {
     built = r.built;
-    holds = subst (λ xs. HasItems r.built.formulas (statements_of xs) [] a.sentences a.bounds a.queries) (take_all (length d.items) d.items (omega arith)) r.holds;
+    holds = subst (λ xs. HasItems r.built.formulas (statements_of xs) [] a.sentences a.rows a.queries) (take_all (length d.items) d.items (omega arith)) r.holds;
     rest = ap (λ qs. with_questions 0 (length qs) r.built.formulas d.items) r.holds.queries_are
-        ∙ sym (ap (λ xs. after (with_statements (length d.items) (length a.bounds) r.built.formulas xs) (λ fs. with_questions 0 0 fs d.items)) (drop_all (length d.items) d.items (omega arith))) ∙ r.rest;
+        ∙ sym (ap (λ xs. after (with_statements (length d.items) (length a.rows) r.built.formulas xs) (λ fs. with_questions 0 0 fs d.items)) (drop_all (length d.items) d.items (omega arith))) ∙ r.rest;
   }
 
   -- after the last question

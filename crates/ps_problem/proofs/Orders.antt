@@ -6,10 +6,10 @@ use Rattle.std.proofs.lemmas.List.Elements.{All-nil, All-cons, All-weaker}
 use Rattle.std.proofs.lemmas.List.Sums.{fold-append}
 use Rattle.std.proofs.lemmas.Option.{IfSome_then}
 use Rattle.ps_meaning.specs.Formula.{Formula, Truth, Falsity, Atom, Not, And, Or, Implies, Iff, subformulas}
-use Rattle.ps_meaning.specs.Statements.{Name, Statement, Question, Item, statements_of, questions_of}
-use Rattle.ps_problem.specs.Numbering.{AreOnce, same_name, same_formula, with_new, names_among, numbered_for, numbered_in_statements, numbered_in_questions, formulas_of}
-use Rattle.ps_problem.specs.Making.{question_on as question}
-use Rattle.ps_problem.specs.Numbered.{IsAmong, HasQuestion}
+use Rattle.ps_meaning.specs.Statements.{Name, Summand, Statement, Plain, Linear, Question, Item, statements_of, questions_of}
+use Rattle.ps_problem.specs.Numbering.{AreOnce, same_name, same_formula, with_new, names_among, numbered_for, numbered_in_terms, numbered_in, numbered_in_statements, numbered_in_questions, formulas_of}
+use Rattle.ps_problem.specs.Making.{question_on as question, HasStatement}
+use Rattle.ps_problem.specs.Numbered.{IsAmong, HasQuestion, HasSummand}
 use Rattle.ps_problem.proofs.NameLists.{same_name-true, same_name-refl}
 use Rattle.ps_problem.proofs.Lists.{once-push, any-new}
 use Rattle.ps_problem.proofs.Nodes.{same-true, same-refl, names-append, atom-among, among-more}
@@ -116,29 +116,57 @@ has-more fs xs q h = record {
   both = among-all fs xs _ h.both;
 }
 
--- formulas in order, with those of these statements or questions
-record Hold {X : Type 0} (of : X → Question) (fs : List (Formula Name)) (xs : List X) : Type 0 where
-  order : Ordered fs
-  among : All (λ x. HasQuestion fs (of x)) xs
+summands-more : (fs xs : List (Formula Name)) (ts : List Summand) → All (HasSummand fs) ts → All (HasSummand (all fs xs)) ts
+summands-more fs xs ts h = All-weaker (HasSummand fs) (HasSummand (all fs xs)) (λ t a. among-all fs xs t.formula a) ts h
 
-in-statements : (ss : List Statement) (fs : List (Formula Name)) → Ordered fs → Hold question (all fs (numbered_in_statements ss)) ss
-in-statements [] fs o = record { order = o; among = All-nil (λ s. HasQuestion fs (question s)) }
-in-statements (s ∷ ss) fs o =
-    let one = numbered-one fs s.formula s.given o in
-    let rest = in-statements ss (all fs (numbered_for s.formula s.given)) one.order in
-    subst (λ gs. Hold question gs (s ∷ ss)) (sym (all-append fs (numbered_for s.formula s.given) (numbered_in_statements ss)))
+statement-more : (fs xs : List (Formula Name)) (s : Statement) → HasStatement fs s → HasStatement (all fs xs) s
+statement-more fs xs (Plain s) h = has-more fs xs (question s) h
+statement-more fs xs (Linear s) h = summands-more fs xs s.terms h
+
+-- formulas in order, with those of these things
+record Hold {X : Type 0} (has : List (Formula Name) → X → Type 0) (fs : List (Formula Name)) (xs : List X) : Type 0 where
+  order : Ordered fs
+  among : All (has fs) xs
+
+in-terms : (ts : List Summand) (fs : List (Formula Name)) → Ordered fs → Hold HasSummand (all fs (numbered_in_terms ts)) ts
+in-terms [] fs o = record { order = o; among = All-nil (HasSummand fs) }
+in-terms (t ∷ ts) fs o =
+    let one = parts t.formula fs o in
+    let rest = in-terms ts (all fs (subformulas t.formula)) one.order in
+    subst (λ gs. Hold HasSummand gs (t ∷ ts)) (sym (all-append fs (subformulas t.formula) (numbered_in_terms ts)))
     (record {
       order = rest.order;
-      among = All-cons (λ t. HasQuestion (all (all fs (numbered_for s.formula s.given)) (numbered_in_statements ss)) (question t)) s ss
-          (has-more (all fs (numbered_for s.formula s.given)) (numbered_in_statements ss) (question s) one.among) rest.among;
+      among = All-cons (HasSummand (all (all fs (subformulas t.formula)) (numbered_in_terms ts))) t ts
+          (among-all (all fs (subformulas t.formula)) (numbered_in_terms ts) t.formula one.among) rest.among;
     })
 
-in-questions : (qs : List Question) (fs : List (Formula Name)) → Ordered fs → Hold (λ q. q) (all fs (numbered_in_questions qs)) qs
+-- formulas in order, and those of a statement among them
+record HoldsStatement (fs : List (Formula Name)) (s : Statement) : Type 0 where
+  order : Ordered fs
+  among : HasStatement fs s
+
+numbered-statement : (s : Statement) (fs : List (Formula Name)) → Ordered fs → HoldsStatement (all fs (numbered_in s)) s
+numbered-statement (Plain s) fs o = let one = numbered-one fs s.formula s.given o in record { order = one.order; among = one.among }
+numbered-statement (Linear s) fs o = let one = in-terms s.terms fs o in record { order = one.order; among = one.among }
+
+in-statements : (ss : List Statement) (fs : List (Formula Name)) → Ordered fs → Hold HasStatement (all fs (numbered_in_statements ss)) ss
+in-statements [] fs o = record { order = o; among = All-nil (HasStatement fs) }
+in-statements (s ∷ ss) fs o =
+    let one = numbered-statement s fs o in
+    let rest = in-statements ss (all fs (numbered_in s)) one.order in
+    subst (λ gs. Hold HasStatement gs (s ∷ ss)) (sym (all-append fs (numbered_in s) (numbered_in_statements ss)))
+    (record {
+      order = rest.order;
+      among = All-cons (HasStatement (all (all fs (numbered_in s)) (numbered_in_statements ss))) s ss
+          (statement-more (all fs (numbered_in s)) (numbered_in_statements ss) s one.among) rest.among;
+    })
+
+in-questions : (qs : List Question) (fs : List (Formula Name)) → Ordered fs → Hold HasQuestion (all fs (numbered_in_questions qs)) qs
 in-questions [] fs o = record { order = o; among = All-nil (HasQuestion fs) }
 in-questions (q ∷ qs) fs o =
     let one = numbered-one fs q.formula q.given o in
     let rest = in-questions qs (all fs (numbered_for q.formula q.given)) one.order in
-    subst (λ gs. Hold (λ q. q) gs (q ∷ qs)) (sym (all-append fs (numbered_for q.formula q.given) (numbered_in_questions qs)))
+    subst (λ gs. Hold HasQuestion gs (q ∷ qs)) (sym (all-append fs (numbered_for q.formula q.given) (numbered_in_questions qs)))
     (record {
       order = rest.order;
       among = All-cons (HasQuestion (all (all fs (numbered_for q.formula q.given)) (numbered_in_questions qs))) q qs
@@ -148,7 +176,7 @@ in-questions (q ∷ qs) fs o =
 -- the formulas of items are in order, and hold those of each statement and each question
 pub record AreNumbered (fs : List (Formula Name)) (items : List Item) : Type 0 where
   pub order : Ordered fs
-  pub statements : All (λ s. HasQuestion fs (question s)) (statements_of items)
+  pub statements : All (HasStatement fs) (statements_of items)
   pub questions : All (HasQuestion fs) (questions_of items)
 
 pub are-numbered : (items : List Item) → AreNumbered (formulas_of items) items
@@ -161,6 +189,6 @@ are-numbered items =
     subst (λ fs. AreNumbered fs items) (sym (all-append [] ss qs))
     (record {
       order = two.order;
-      statements = All-weaker (λ s. HasQuestion (all [] ss) (question s)) (λ s. HasQuestion (all (all [] ss) qs) (question s)) (λ s h. has-more (all [] ss) qs (question s) h) (statements_of items) one.among;
+      statements = All-weaker (HasStatement (all [] ss)) (HasStatement (all (all [] ss) qs)) (λ s h. statement-more (all [] ss) qs s h) (statements_of items) one.among;
       questions = two.among;
     })

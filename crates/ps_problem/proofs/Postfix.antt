@@ -1,15 +1,16 @@
 -- Marks in postfix order, and what they spell.
 use Rattle.std.proofs.Common.{◌≡◌, ℕ, ◌-◌, ◌<◌, ◌≤◌, List, [], ◌∷◌, ◌++◌, Option, Some, None, IfSome, option_map, length, map, take, drop, All, refl, ap, ◌∙◌, arith}
 use Rattle.std.proofs.lemmas.List.{length-drop, take-append-le, drop-append-le, get_or_append_left}
-use Rattle.std.proofs.lemmas.List.Elements.{All-head, All-tail}
+use Rattle.std.proofs.lemmas.List.Elements.{All-head, All-tail, All-weaker}
 use Rattle.ps_meaning.specs.Formula.{Formula, Truth, Atom}
-use Rattle.ps_meaning.specs.Statements.{Name, Stated, Asked}
+use Rattle.ps_meaning.specs.Statements.{Name, Plain, Linear, Stated, Asked}
+use Rattle.ps_problem.specs.declared.term.Term.{Term}
 use Rattle.ps_problem.specs.declared.mark.Mark.{Mark}
 use Rattle.ps_problem.specs.declared.mark.Mark.TheVariants as mark
 use Rattle.ps_problem.specs.declared.span.Span.{Span}
 use Rattle.ps_problem.specs.declared.draft_item.DraftItem.{DraftItem}
 use Rattle.ps_problem.specs.declared.draft_item.DraftItem.TheVariants as item
-use Rattle.ps_problem.specs.Drafts.{arity, made_by, marked, NameBelow, formula_at, ratio_of}
+use Rattle.ps_problem.specs.Drafts.{arity, made_by, marked, NameBelow, formula_at, ratio_of, signed_of, summand_at, IsDraftTerm}
 use Rattle.ps_problem.specs.DraftLists.{open_after, HaveOperands, part, item_of, IsDraftItem}
 
 pub standing-push : (names : List Name) (fs : List (Formula Name)) (ms : List Mark) (m : Mark) → open_after names fs (ms ++ m ∷ []) ≡ marked names (open_after names fs ms) m
@@ -80,17 +81,30 @@ given-below : (n k : ℕ) (g : Option ℕ) → n ≤ k → IfSome g (λ i. i < n
 given-below n k None le h = tt
 given-below n k (Some g) le h = omega (arith, h)
 
+-- further formulas change nothing of terms
+summands-more : (fs more : List (Formula Name)) (ts : List Term) → All (IsDraftTerm (length fs)) ts → map (summand_at (fs ++ more)) ts ≡ map (summand_at fs) ts
+summands-more fs more ts h = map-same (summand_at (fs ++ more)) (summand_at fs) ts
+    (All-weaker (IsDraftTerm (length fs)) (λ t. summand_at (fs ++ more) t ≡ summand_at fs t) (λ t k. ap (λ f. record { coefficient = signed_of t.coefficient; formula = f }) (at-more fs more t.formula k.formula)) ts h)
+
 -- further formulas change nothing of an item
 pub item-more : (fs more : List (Formula Name)) (e : DraftItem) → IsDraftItem (length fs) e → item_of (fs ++ more) e ≡ item_of fs e
-item-more fs more (item.Sentence s) h = λ t. Stated (record {
+item-more fs more (item.Sentence s) h = λ t. Stated (Plain (record {
   formula = at-more fs more s.formula h.0.0 t;
   given = given-more fs more s.given h.0.1 t;
   side = s.side;
   value = record { num = s.num; den = s.den };
   upper = option_map ratio_of s.upper;
-})
+}))
+item-more fs more (item.Linear s) h = ap (λ ts. Stated (Linear (record { terms = ts; side = s.side; value = signed_of s.right; upper = option_map signed_of s.upper }))) (summands-more fs more s.terms h.terms)
 item-more fs more (item.Query q) h = λ t. Asked (record { formula = at-more fs more q.formula h.0 t; given = given-more fs more q.given h.1 t })
 
 pub draft_item-more : (n k : ℕ) (e : DraftItem) → n ≤ k → IsDraftItem n e → IsDraftItem k e
 draft_item-more n k (item.Sentence s) le h = ((omega (arith, h.0.0), given-below n k s.given le h.0.1), h.1, h.2)
+draft_item-more n k (item.Linear s) le h = record {
+  some = h.some;
+  few = h.few;
+  terms = All-weaker (IsDraftTerm n) (IsDraftTerm k) (λ t i. record { formula = (let a = i.formula in omega (arith, a, le)); coefficient = i.coefficient }) s.terms h.terms;
+  value = h.value;
+  upper = h.upper;
+}
 draft_item-more n k (item.Query q) le h = (omega (arith, h.0), given-below n k q.given le h.1)

@@ -3,20 +3,20 @@ use Rattle.std.proofs.Common.{◌≡◌, ℕ, ◌+◌, ◌≤◌, nat_lt, List, 
 use Rattle.std.proofs.lemmas.List.Elements.{All-head, All-tail}
 use Rattle.ps_meaning.specs.Formula.{Formula, Truth, Falsity, Atom, Not, And, Or, Implies, Iff}
 use Rattle.ps_meaning.specs.Names.{IsName}
-use Rattle.ps_meaning.specs.Statements.{Name, Statement, Question, Item, Stated, Asked, statements_of, questions_of}
-use Rattle.ps_text.specs.Canonical.{canonical_nesting, listed, HasNames, IsWritable, IsWritableGiven, AreLawful}
+use Rattle.ps_meaning.specs.Statements.{Name, Summand, Statement, Plain, Linear, Question, Item, Stated, Asked, statements_of, questions_of}
+use Rattle.ps_text.specs.Canonical.{canonical_nesting, listed, HasNames, IsWritable, IsWritableGiven, IsReducedWeight, AreWritable, IsLawfulItem, AreLawful}
 use Rattle.ps_text.proofs.Canonicals.{canonical_front}
 use Rattle.ps_text.proofs.Nesting.{nests_canonical}
-use Rattle.ps_problem.specs.declared.limits.TheConstants.{MOST_BOUNDS, MOST_QUERIES, MOST_NESTING}
+use Rattle.ps_problem.specs.declared.limits.TheConstants.{MOST_QUERIES, MOST_NESTING}
 use Rattle.ps_problem.specs.Problems.{Parts}
-use Rattle.ps_problem.specs.Numbering.{same_name, place_in, names_among, numbered_for, formulas_of, problem_of}
+use Rattle.ps_problem.specs.Numbering.{same_name, place_in, names_among, numbered_for, numbered_in, formulas_of, problem_of}
 use Rattle.ps_problem.specs.declared.excess.Excess.{Excess}
-use Rattle.ps_problem.specs.declared.excess.Excess.TheVariants.{Bounds, Queries}
-use Rattle.ps_problem.specs.Counts.{ItemExcess, with_formulas, count_bounds, at_item, with_statements, with_questions, after, counted}
+use Rattle.ps_problem.specs.declared.excess.Excess.TheVariants.{Queries}
+use Rattle.ps_problem.specs.Counts.{ItemExcess, unless, with_formulas, count_bounds, statement_excess, at_item, with_statements, with_questions, after, counted}
 use Rattle.ps_problem.specs.Drafts.{HasReducedValues, IsNested}
 use Rattle.ps_problem.specs.Soundness.{IsProblem}
-use Rattle.ps_problem.specs.Numbered.{IsAmong, HasQuestion}
-use Rattle.ps_problem.specs.Making.{question_on as question}
+use Rattle.ps_problem.specs.Numbered.{IsAmong, HasQuestion, HasSummand}
+use Rattle.ps_problem.specs.Making.{HasStatement}
 use Rattle.ps_problem.specs.Written.{items_from}
 use Rattle.ps_problem.specs.Rereading.{IsReread}
 use Rattle.ps_problem.proofs.NameLists.{same_name-true, same_name-refl}
@@ -53,16 +53,24 @@ module _ (fs : List (Formula Name)) (o : Ordered fs) (named : All IsName (names_
       let k = All-head IsNested (Asked q) items n in
       ((writable q.formula a.formula k.0, given-writable q.given a.given k.1), questions-lawful items (All-tail (HasQuestion fs) q (questions_of items) h) (All-tail IsNested (Asked q) items n))
 
-  statements-lawful : (items more : List Item) → All (λ s. HasQuestion fs (question s)) (statements_of items) → All IsNested items → All HasReducedValues items → AreLawful more → AreLawful (map Stated (statements_of items) ++ more)
+  are-writable : (ts : List Summand) → All (HasSummand fs) ts → All (λ t. canonical_nesting t.formula ≤ MOST_NESTING) ts → All (λ t. IsReducedWeight t.coefficient) ts → AreWritable ts
+  are-writable [] a n v = tt
+  are-writable (t ∷ ts) a n v = (
+    (All-head (λ u. IsReducedWeight u.coefficient) t ts v, writable t.formula (All-head (HasSummand fs) t ts a) (All-head (λ u. canonical_nesting u.formula ≤ MOST_NESTING) t ts n)),
+    are-writable ts (All-tail (HasSummand fs) t ts a) (All-tail (λ u. canonical_nesting u.formula ≤ MOST_NESTING) t ts n) (All-tail (λ u. IsReducedWeight u.coefficient) t ts v),
+  )
+
+  statement-lawful : (s : Statement) → HasStatement fs s → IsNested (Stated s) → HasReducedValues (Stated s) → IsLawfulItem (Stated s)
+  statement-lawful (Plain s) a m v = (writable s.formula a.formula m.0, given-writable s.given a.given m.1, v.0, v.1)
+  statement-lawful (Linear s) a m v = record { some = v.some; few = v.few; terms = are-writable s.terms a m v.coefficients; value = v.value; upper = v.upper }
+
+  statements-lawful : (items more : List Item) → All (HasStatement fs) (statements_of items) → All IsNested items → All HasReducedValues items → AreLawful more → AreLawful (map Stated (statements_of items) ++ more)
   statements-lawful [] more h n l k = k
   statements-lawful (Asked q ∷ items) more h n l k = statements-lawful items more h (All-tail IsNested (Asked q) items n) (All-tail HasReducedValues (Asked q) items l) k
-  statements-lawful (Stated s ∷ items) more h n l k =
-      let a = All-head (λ t. HasQuestion fs (question t)) s (statements_of items) h in
-      let m = All-head IsNested (Stated s) items n in
-      let v = All-head HasReducedValues (Stated s) items l in (
-        (writable s.formula a.formula m.0, given-writable s.given a.given m.1, v.0, v.1),
-        statements-lawful items more (All-tail (λ t. HasQuestion fs (question t)) s (statements_of items) h) (All-tail IsNested (Stated s) items n) (All-tail HasReducedValues (Stated s) items l) k,
-      )
+  statements-lawful (Stated s ∷ items) more h n l k = (
+    statement-lawful s (All-head (HasStatement fs) s (statements_of items) h) (All-head IsNested (Stated s) items n) (All-head HasReducedValues (Stated s) items l),
+    statements-lawful items more (All-tail (HasStatement fs) s (statements_of items) h) (All-tail IsNested (Stated s) items n) (All-tail HasReducedValues (Stated s) items l) k,
+  )
 
 -- counts: an order of statements first passes no limit either
 
@@ -78,7 +86,7 @@ statements-counted : (items : List Item) (n m b : ℕ) (fs gs : List (Formula Na
 statements-counted [] n m b fs gs qs e = no-statements m b fs qs ∙ e
 statements-counted (Asked q ∷ items) n m b fs gs qs e = statements-counted items (n + 1) m b fs gs qs e
 statements-counted (Stated s ∷ items) n m b fs gs qs e =
-    at-both (n + 1) (m + 1) (if nat_lt MOST_BOUNDS (b + count_bounds s) then Err Bounds else with_formulas fs (numbered_for s.formula s.given))
+    at-both (n + 1) (m + 1) (unless (statement_excess b s) (with_formulas fs (numbered_in s)))
     (λ xs. with_statements (n + 1) (b + count_bounds s) xs items) (λ xs. with_statements (m + 1) (b + count_bounds s) xs (map Stated (statements_of items) ++ map Asked qs)) gs e
     (λ xs k. statements-counted items (n + 1) (m + 1) (b + count_bounds s) xs gs qs k)
 
@@ -111,7 +119,7 @@ reread p h = subst IsReread (sym h.numbered) made
     named = subst (λ q. All IsName q.names) h.numbered h.named
 
     same : items_from (problem_of h.items) ≡ listed (statements_of h.items) (questions_of h.items)
-    same = items-back h.items
+    same = items-back h.items h.reduced
 
     lawful : AreLawful (items_from (problem_of h.items))
     lawful = let k = are-numbered h.items in subst AreLawful (sym same)
@@ -122,5 +130,5 @@ reread p h = subst IsReread (sym h.numbered) made
       front = canonical_front (items_from (problem_of h.items)) lawful;
       formulas = h.formulas;
       counts = ap counted same ∙ counted-listed h.items h.formulas h.within;
-      made = problem-back h.items;
+      made = problem-back h.items h.reduced;
     }

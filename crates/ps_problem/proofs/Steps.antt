@@ -138,6 +138,7 @@ module _ (names : List Name) (atoms : List ℕ) (nodes : List Node) (h : Built n
   step-known r n e new (Err (fault.TooMany excess.Atoms)) added = absurd added
   step-known r n e new (Err (fault.TooMany excess.Bounds)) added = absurd added
   step-known r n e new (Err (fault.TooMany excess.Queries)) added = absurd added
+  step-known r n e new (Err (fault.TooMany excess.Numbers)) added = absurd added
   step-known r n e new (Err (fault.TooMany excess.Nodes)) added = by (list_any (same_formula g) h.formulas) refl
     where
       by : (b : Bool) → list_any (same_formula g) h.formulas ≡ b → with_formulas h.formulas (g ∷ []) ≡ Err Nodes

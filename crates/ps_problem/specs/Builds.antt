@@ -6,7 +6,7 @@ use Rattle.ps_problem.specs.declared.build_error.BuildError.{BuildError}
 use Rattle.ps_problem.specs.declared.build_error.BuildError.TheVariants as error
 use Rattle.ps_problem.specs.Problems.{Parts}
 use Rattle.ps_problem.specs.Numbering.{problem_of}
-use Rattle.ps_problem.specs.declared.excess.Excess.TheVariants.{Atoms, Nodes, Bounds, Queries}
+use Rattle.ps_problem.specs.declared.excess.Excess.TheVariants.{Atoms, Nodes, Bounds, Queries, Numbers}
 use Rattle.ps_problem.specs.Counts.{ItemExcess, counted}
 
 -- the excess that an error tells of, none where memory ran out
@@ -15,6 +15,7 @@ item_excess_of (error.TooManyAtoms n) = Some (record { excess = Atoms; item = n 
 item_excess_of (error.TooManyNodes n) = Some (record { excess = Nodes; item = n })
 item_excess_of (error.TooManyBounds n) = Some (record { excess = Bounds; item = n })
 item_excess_of (error.TooManyQueries n) = Some (record { excess = Queries; item = n })
+item_excess_of (error.LinearTooLarge n) = Some (record { excess = Numbers; item = n })
 item_excess_of error.NoMemory = None
 
 -- an error tells of the first excess of items

@@ -4,12 +4,13 @@ use Rattle.std.specs.Prelude.{◌++◌, Option, Some, None, Result, Ok, Err, len
 use Rattle.std.specs.List.{list_any}
 use Rattle.ps_meaning.specs.Formula.{Formula}
 use Rattle.ps_meaning.specs.Formula as formula
-use Rattle.ps_meaning.specs.Statements.{Name, Statement, Item, Stated, Asked}
+use Rattle.ps_meaning.specs.Statements.{Name, Statement, Plain, Linear, Item, Stated, Asked}
 use Rattle.ps_formula.specs.declared.limits.TheConstants.{MOST_ATOMS, MOST_NODES}
 use Rattle.ps_problem.specs.declared.excess.Excess.{Excess}
-use Rattle.ps_problem.specs.declared.excess.Excess.TheVariants.{Atoms, Nodes, Bounds, Queries}
+use Rattle.ps_problem.specs.declared.excess.Excess.TheVariants.{Atoms, Nodes, Bounds, Queries, Numbers}
 use Rattle.ps_problem.specs.declared.limits.TheConstants.{MOST_BOUNDS, MOST_QUERIES}
-use Rattle.ps_problem.specs.Numbering.{same_formula, numbered_for, names_among}
+use Rattle.ps_problem.specs.Numbering.{same_formula, numbered_for, numbered_in, names_among}
+use Rattle.ps_problem.specs.Scales.{is_too_large}
 
 -- an excess, and the item at which it comes, from 1 in the order of the text
 pub record ItemExcess : Type 0 where
@@ -39,7 +40,18 @@ with_formulas fs (g ∷ gs) = if list_any (same_formula g) fs then with_formulas
 
 -- how many bounds a statement has
 abbrev pub count_bounds : Statement → ℕ
-count_bounds s = if is_some s.upper then 2 else 1
+count_bounds (Plain s) = if is_some s.upper then 2 else 1
+count_bounds (Linear s) = if is_some s.upper then 2 else 1
+
+-- the numbers of a linear statement are too large
+abbrev pub has_large_numbers : Statement → Bool
+has_large_numbers (Plain s) = false
+has_large_numbers (Linear s) = is_too_large s
+
+-- what a statement is too much of behind so many bounds, before its formulas are gone through
+abbrev pub statement_excess : ℕ → Statement → Option Excess
+statement_excess bounds s = if has_large_numbers s then Some Numbers
+    else (if nat_lt MOST_BOUNDS (bounds + count_bounds s) then Some Bounds else None)
 
 -- the result, or else the excess at an item
 abbrev pub at_item : {X Y : Type 0} → ℕ → Result X Excess → (X → Result Y ItemExcess) → Result Y ItemExcess
@@ -51,7 +63,7 @@ abbrev pub with_statements : ℕ → ℕ → List (Formula Name) → List Item �
 with_statements before bounds fs [] = Ok fs
 with_statements before bounds fs (Asked q ∷ items) = with_statements (before + 1) bounds fs items
 with_statements before bounds fs (Stated s ∷ items) = at_item (before + 1)
-    (if nat_lt MOST_BOUNDS (bounds + count_bounds s) then Err Bounds else with_formulas fs (numbered_for s.formula s.given))
+    (unless (statement_excess bounds s) (with_formulas fs (numbered_in s)))
     (λ gs. with_statements (before + 1) (bounds + count_bounds s) gs items)
 
 -- the formulas of the questions among items behind some formulas; so many items and questions come before
@@ -68,6 +80,6 @@ after (Err e) more = Err e
 after (Ok x) more = more x
 
 -- the different formulas of items, or the first excess: all statements are gone through and then all questions, and
--- at each the bounds or queries are counted first and then its formulas one by one
+-- at each its numbers come first, then the bounds or queries are counted, and then its formulas one by one
 abbrev pub counted : List Item → Result (List (Formula Name)) ItemExcess
 counted items = after (with_statements 0 0 [] items) (λ fs. with_questions 0 0 fs items)

@@ -1,10 +1,16 @@
 -- What a draft of a problem holds.
-use Rattle.std.specs.Prelude.{◌≤◌, ◌<◌, ◌-◌, ℕ, List, [], ◌∷◌, ◌++◌, Option, length, option_map, take, IfSome, slice_index_or}
+use Rattle.std.specs.Prelude.{◌≤◌, ◌<◌, ◌-◌, ℕ, List, [], ◌∷◌, ◌++◌, Option, length, map}
+use Rattle.std.specs.Prelude.{option_map, take, All, IfSome, slice_index_or}
 use Rattle.ps_meaning.specs.Formula.{Formula}
 use Rattle.ps_meaning.specs.Formula as formula
 use Rattle.ps_meaning.specs.declared.side.Side.{Side}
-use Rattle.ps_meaning.specs.Statements.{Name, Ratio, Statement, Question, Item, Stated, Asked}
-use Rattle.ps_text.specs.Canonical.{canonical_nesting, IsReduced, IsUpper}
+use Rattle.ps_meaning.specs.Statements.{Name, Ratio, SignedRatio, Summand, PlainStatement}
+use Rattle.ps_meaning.specs.Statements.{LinearStatement, Statement, Plain, Linear}
+use Rattle.ps_meaning.specs.Statements.{Question, Item, Stated, Asked}
+use Rattle.ps_text.specs.Canonical.{canonical_nesting, IsReduced, IsUpper, IsReducedWeight, IsSumUpper}
+use Rattle.ps_text.specs.declared.limits.TheConstants.{MOST_TERMS}
+use Rattle.ps_problem.specs.declared.term.Signed.{Signed}
+use Rattle.ps_problem.specs.declared.term.Term.{Term}
 use Rattle.ps_problem.specs.declared.limits.TheConstants.{MOST_NESTING}
 use Rattle.ps_problem.specs.declared.mark.Mark.{Mark}
 use Rattle.ps_problem.specs.declared.mark.Mark.TheVariants as mark
@@ -58,14 +64,29 @@ NameBelow n other = Unit {0}
 abbrev pub ratio_of : ℕ × ℕ → Ratio
 ratio_of r = record { num = r.0; den = r.1 }
 
+-- a fraction that may be below 0
+abbrev pub signed_of : Signed → SignedRatio
+signed_of s = record { num = s.num; den = s.den }
+
+-- a sum has terms, and no more than may be, and its numbers are in lowest terms and within the limits
+pub record HasReducedNumbers (s : LinearStatement) : Type 0 where
+  pub some : 1 ≤ length s.terms
+  pub few : length s.terms ≤ MOST_TERMS
+  pub coefficients : All (λ t. IsReducedWeight t.coefficient) s.terms
+  pub value : IsReducedWeight s.value
+  pub upper : IsSumUpper s.side s.upper
+
 -- an item's values are in lowest terms and within the limits
 abbrev pub HasReducedValues : Item → Type 0
-HasReducedValues (Stated s) = IsReduced s.value × IsUpper s.side s.upper
+HasReducedValues (Stated (Plain s)) = IsReduced s.value × IsUpper s.side s.upper
+HasReducedValues (Stated (Linear s)) = HasReducedNumbers s
 HasReducedValues (Asked q) = Unit {0}
 
 -- the canonical spellings of an item's formulas don't nest too deep
 abbrev pub IsNested : Item → Type 0
-IsNested (Stated s) = (canonical_nesting s.formula ≤ MOST_NESTING) × IfSome s.given (λ g. canonical_nesting g ≤ MOST_NESTING)
+IsNested (Stated (Linear s)) = All (λ t. canonical_nesting t.formula ≤ MOST_NESTING) s.terms
+IsNested (Stated (Plain s)) = (canonical_nesting s.formula ≤ MOST_NESTING)
+    × IfSome s.given (λ g. canonical_nesting g ≤ MOST_NESTING)
 IsNested (Asked q) = (canonical_nesting q.formula ≤ MOST_NESTING) × IfSome q.given (λ g. canonical_nesting g ≤ MOST_NESTING)
 
 -- the formula of a number
@@ -77,7 +98,7 @@ abbrev pub question_at : List (Formula Name) → ℕ → Option ℕ → Question
 question_at fs f g = record { formula = formula_at fs f; given = option_map (formula_at fs) g }
 
 -- the statement over formulas by number, with a value on a side, and perhaps an upper value
-abbrev pub statement_at : List (Formula Name) → ℕ → Option ℕ → Side → Ratio → Option Ratio → Statement
+abbrev pub statement_at : List (Formula Name) → ℕ → Option ℕ → Side → Ratio → Option Ratio → PlainStatement
 statement_at fs f g s value upper = record {
   formula = formula_at fs f;
   given = option_map (formula_at fs) g;
@@ -85,6 +106,24 @@ statement_at fs f g s value upper = record {
   value = value;
   upper = upper;
 }
+
+-- the summand of a term over formulas by number
+abbrev pub summand_at : List (Formula Name) → Term → Summand
+summand_at fs t = record { coefficient = signed_of t.coefficient; formula = formula_at fs t.formula }
+
+-- the sum of terms over formulas by number, with a value on a side, and perhaps an upper value
+abbrev pub sum_at : List (Formula Name) → List Term → Side → Signed → Option Signed → LinearStatement
+sum_at fs ts s value upper = record {
+  terms = map (summand_at fs) ts;
+  side = s;
+  value = signed_of value;
+  upper = option_map signed_of upper;
+}
+
+-- the number of a term's formula was given out, and its coefficient is in lowest terms and within the limits
+pub record IsDraftTerm (n : ℕ) (t : Term) : Type 0 where
+  pub formula : t.formula < n
+  pub coefficient : IsReducedWeight (signed_of t.coefficient)
 
 -- the numbers of a formula and perhaps a condition were given out
 abbrev pub AreBelow : ℕ → ℕ → Option ℕ → Type 0
@@ -109,7 +148,11 @@ with_item d item = record d { items = d.items ++ item ∷ [] }
 -- a draft with a sentence more, over its formulas by number
 abbrev pub with_statement : Drafted → ℕ → Option ℕ → Side → ℕ × ℕ → Option (ℕ × ℕ) → Drafted
 with_statement d f g s value upper = with_item d
-    (Stated (statement_at d.formulas f g s (ratio_of value) (option_map ratio_of upper)))
+    (Stated (Plain (statement_at d.formulas f g s (ratio_of value) (option_map ratio_of upper))))
+
+-- a draft with a linear sentence more, over its formulas by number
+abbrev pub with_sum : Drafted → List Term → Side → Signed → Option Signed → Drafted
+with_sum d ts s value upper = with_item d (Stated (Linear (sum_at d.formulas ts s value upper)))
 
 -- a draft with a query more, over its formulas by number
 abbrev pub with_question : Drafted → ℕ → Option ℕ → Drafted

@@ -4,7 +4,9 @@ pub use Rattle.ps_meaning.specs.Bounds
 pub use Rattle.ps_meaning.specs.Statements
 pub use Rattle.ps_formula.specs.Nodes
 -- Meaning
+pub mod Scales
 pub mod Problems
+pub mod Shown
 pub mod Rows
 pub mod Numbering
 pub mod Counts

@@ -1,15 +1,16 @@
 -- Formulas of a draft as far as they are numbered.
-use Rattle.std.specs.Prelude.{◌≡◌, ◌≤◌, ◌<◌, ◌-◌, ℕ, true, List, [], ◌∷◌, ◌++◌, Option}
+use Rattle.std.specs.Prelude.{◌≡◌, ◌≤◌, ◌<◌, ◌-◌, ℕ, ℤ, true, List, [], ◌∷◌, ◌++◌, Option}
 use Rattle.std.specs.Prelude.{Result, Ok, Err, length, map, take, drop, All, Contains, IfSome, slice_index_or}
 use Rattle.std.specs.List.{list_any}
 use Rattle.ps_meaning.specs.Formula.{Formula, subformulas}
 use Rattle.ps_meaning.specs.Formula as formula
-use Rattle.ps_meaning.specs.Statements.{Name, Question}
+use Rattle.ps_meaning.specs.Statements.{Name, Summand, Question}
 use Rattle.ps_formula.specs.declared.node.Node.{Node}
 use Rattle.ps_formula.specs.declared.node.Node.TheVariants as node
 use Rattle.ps_formula.specs.declared.limits.TheConstants.{MOST_ATOMS, MOST_NODES}
 use Rattle.ps_problem.specs.declared.mark.Mark.{Mark}
 use Rattle.ps_problem.specs.declared.mark.Mark.TheVariants as mark
+use Rattle.ps_problem.specs.declared.term.Term.{Term}
 use Rattle.ps_problem.specs.declared.query.Query.{Query}
 use Rattle.ps_problem.specs.declared.fault.Fault.{Fault}
 use Rattle.ps_problem.specs.declared.fault.Fault.TheVariants as fault
@@ -17,12 +18,12 @@ use Rattle.ps_formula.specs.Nodes.{Adds}
 use Rattle.ps_problem.specs.declared.excess.Excess.{Excess}
 use Rattle.ps_problem.specs.declared.excess.Excess.TheVariants.{Nodes}
 use Rattle.ps_problem.specs.Counts.{with_formulas}
-use Rattle.ps_problem.specs.Drafts.{Drafted, NameBelow, made_by, marked, formula_at, question_at}
+use Rattle.ps_problem.specs.Drafts.{Drafted, NameBelow, made_by, marked, formula_at, question_at, summand_at}
 use Rattle.ps_problem.specs.DraftLists.{open_after}
 use Rattle.ps_problem.specs.declared.building.Building.{Building}
 use Rattle.ps_problem.specs.Problems.{name_at}
 use Rattle.ps_problem.specs.Numbering.{AreOnce, same_name, same_formula, place_in, names_among}
-use Rattle.ps_problem.specs.Numbering.{node_in, both_of, query_in, numbered_for}
+use Rattle.ps_problem.specs.Numbering.{node_in, both_of, query_in, term_in, numbered_for, numbered_in_terms}
 
 -- a formula is among some
 abbrev pub IsAmong : List (Formula Name) → Formula Name → Type 0
@@ -112,6 +113,33 @@ pub record HasQuestion (fs : List (Formula Name)) (q : Question) : Type 0 where
   pub formula : IsAmong fs q.formula
   pub given : IfSome q.given (IsAmong fs)
   pub both : IsAmong fs (both_of q.formula q.given)
+
+-- the formula of a summand is among some
+abbrev pub HasSummand : List (Formula Name) → Summand → Type 0
+HasSummand fs t = IsAmong fs t.formula
+
+-- what is expected was built, and the summands have these numbers, their coefficients times a scale; or there is the excess that
+-- is expected
+abbrev pub GivesTerms : List Name → Result (List (Formula Name)) Excess → ℕ → List Summand → Building
+    → Result (List (ℕ × ℤ)) Fault → Type 0
+GivesTerms names expected m ss b (Ok ts) = (h : Built names b.atoms b.formulas) × (expected ≡ Ok h.formulas)
+    × All (HasSummand h.formulas) ss × (ts ≡ map (term_in h.formulas m) ss)
+GivesTerms names expected m ss b (Err x) = IsFaultOf expected x
+
+-- as far as terms have been gone through: those so far have their numbers, and what is left gives what all of them give
+pub record TermsNumbered (names : List Name) (start : List (Formula Name)) (m : ℕ) (all : List Summand) (i : ℕ) (b : Building)
+    (ts : List (ℕ × ℤ)) : Type 0 where
+  pub built : Built names b.atoms b.formulas
+  pub among : All (HasSummand built.formulas) (take i all)
+  pub terms_are : ts ≡ map (term_in built.formulas m) (take i all)
+  pub rest : with_formulas built.formulas (numbered_in_terms (drop i all)) ≡ with_formulas start (numbered_in_terms all)
+
+-- whatever formulas of a draft were numbered before, all subformulas of some terms are behind them, and these have the numbers
+-- of the result, their coefficients times a scale; or there is the excess at one of them
+abbrev pub NumbersTerms : Drafted → Building → ℕ → List Term → Building → Result (List (ℕ × ℤ)) Fault → Type 0
+NumbersTerms d old m ts new result = (h : Built d.names old.atoms old.formulas)
+    → GivesTerms d.names (with_formulas h.formulas (numbered_in_terms (map (summand_at d.formulas) ts))) m
+    (map (summand_at d.formulas) ts) new result
 
 -- what is expected was built, and the question has these numbers; or there is the excess that is expected
 abbrev pub GivesQuery : List Name → Result (List (Formula Name)) Excess → Question → List ℕ → List Node

@@ -1,5 +1,5 @@
 -- The problem of a text's items: its formulas and atoms in the order in which they first come.
-use Rattle.std.specs.Prelude.{◌≡◌, ◌<◌, ℕ, suc, ◌==◌, Bool, true, false, ◌&&◌, List, [], ◌∷◌}
+use Rattle.std.specs.Prelude.{◌≡◌, ◌<◌, ℕ, ℤ, suc, ◌==◌, Bool, true, false, ◌&&◌, List, [], ◌∷◌}
 use Rattle.std.specs.Prelude.{◌++◌, pos, Option, Some, None, map, option_map}
 use Rattle.std.specs.Prelude.{option_to_list, fold, length, slice_index_or, if◌then◌else◌}
 use Rattle.std.specs.List.{list_any}
@@ -9,11 +9,15 @@ use Rattle.ps_meaning.specs.Formula as formula
 use Rattle.ps_meaning.specs.declared.side.Side.{Side}
 use Rattle.ps_meaning.specs.declared.side.Side.TheVariants as side
 use Rattle.ps_meaning.specs.Bounds as meaning
-use Rattle.ps_meaning.specs.Statements.{Name, Ratio, Statement, Question, Item, statements_of, questions_of}
+use Rattle.ps_meaning.specs.Statements.{Name, Ratio, SignedRatio, Summand, PlainStatement, LinearStatement, Statement}
+use Rattle.ps_meaning.specs.Statements.{Plain, Linear, Question, Item, statements_of, questions_of}
 use Rattle.ps_formula.specs.declared.node.Node.{Node}
 use Rattle.ps_formula.specs.declared.node.Node.TheVariants as node
 use Rattle.ps_problem.specs.declared.bound.Bound.{Bound}
+use Rattle.ps_problem.specs.declared.sentence.Linear.{Linear as LinearSentence}
 use Rattle.ps_problem.specs.declared.sentence.Sentence.{Sentence}
+use Rattle.ps_problem.specs.declared.sentence.Sentence.TheVariants as sentence
+use Rattle.ps_problem.specs.Scales.{scaled, scale_of}
 use Rattle.ps_problem.specs.declared.query.Query.{Query}
 use Rattle.ps_problem.specs.Problems.{Parts, tree_at, given_at}
 
@@ -55,10 +59,20 @@ abbrev pub numbered_for : Formula Name → Option (Formula Name) → List (Formu
 numbered_for f None = subformulas f
 numbered_for f (Some g) = subformulas f ++ subformulas g ++ formula.And f g ∷ []
 
+-- the formulas to be numbered for terms: their subformulas in order
+abbrev pub numbered_in_terms : List Summand → List (Formula Name)
+numbered_in_terms [] = []
+numbered_in_terms (t ∷ ts) = subformulas t.formula ++ numbered_in_terms ts
+
+-- the formulas to be numbered for a statement
+abbrev pub numbered_in : Statement → List (Formula Name)
+numbered_in (Plain s) = numbered_for s.formula s.given
+numbered_in (Linear s) = numbered_in_terms s.terms
+
 -- the formulas to be numbered for statements
 abbrev pub numbered_in_statements : List Statement → List (Formula Name)
 numbered_in_statements [] = []
-numbered_in_statements (s ∷ ss) = numbered_for s.formula s.given ++ numbered_in_statements ss
+numbered_in_statements (s ∷ ss) = numbered_in s ++ numbered_in_statements ss
 
 -- the formulas to be numbered for questions
 abbrev pub numbered_in_questions : List Question → List (Formula Name)
@@ -93,7 +107,7 @@ both_of f None = f
 both_of f (Some g) = formula.And f g
 
 -- a statement's bound on one side
-abbrev pub bound_in : List (Formula Name) → Statement → Side → Ratio → Bound
+abbrev pub bound_in : List (Formula Name) → PlainStatement → Side → Ratio → Bound
 bound_in fs s on value = record {
   formula = place_in same_formula fs s.formula;
   given = option_map (place_in same_formula fs) s.given;
@@ -103,9 +117,24 @@ bound_in fs s on value = record {
   den = value.den;
 }
 
+-- a term over numbered formulas, its coefficient times a scale
+abbrev pub term_in : List (Formula Name) → ℕ → Summand → ℕ × ℤ
+term_in fs m t = (place_in same_formula fs t.formula, scaled m t.coefficient)
+
+-- a linear statement over numbered formulas, in whole numbers
+abbrev pub linear_in : List (Formula Name) → LinearStatement → LinearSentence
+linear_in fs s = record {
+  terms = map (term_in fs (scale_of s)) s.terms;
+  scale = scale_of s;
+  side = s.side;
+  right = scaled (scale_of s) s.value;
+  upper = option_map (scaled (scale_of s)) s.upper;
+}
+
 -- a statement as a sentence over numbered formulas
 abbrev pub sentence_in : List (Formula Name) → Statement → Sentence
-sentence_in fs s = record { first = bound_in fs s s.side s.value; second = option_map (bound_in fs s side.AtMost) s.upper }
+sentence_in fs (Plain s) = sentence.Plain (bound_in fs s s.side s.value) (option_map (bound_in fs s side.AtMost) s.upper)
+sentence_in fs (Linear s) = sentence.Linear (linear_in fs s)
 
 -- a question as a query over numbered formulas
 abbrev pub query_in : List (Formula Name) → Question → Query
@@ -134,20 +163,37 @@ numbered_given names None = formula.Truth
 numbered_given names (Some g) = numbered names g
 
 -- what a statement says on one side, over numbers
-abbrev pub stated_bound : List Name → Statement → Side → Ratio → meaning.Bound
-stated_bound names s on value = record {
+abbrev pub stated_bound : List Name → PlainStatement → Side → Ratio → meaning.Bound
+stated_bound names s on value = meaning.Plain (record {
   formula = numbered names s.formula;
   given = numbered_given names s.given;
   side = on;
   num = pos value.num;
   den = pos value.den;
-}
+})
 
--- what statements say, over numbers: one bound each, and an upper one too where it is an interval
+-- the formulas of terms over numbers, each with its coefficient times a scale
+abbrev pub stated_weights : List Name → ℕ → List Summand → meaning.Weights
+stated_weights names m [] = []
+stated_weights names m (t ∷ ts) = (numbered names t.formula, scaled m t.coefficient) ∷ stated_weights names m ts
+
+-- what a linear statement says on one side, over numbers: all of it times its scale
+abbrev pub stated_sum : List Name → LinearStatement → Side → SignedRatio → meaning.Bound
+stated_sum names s on value = meaning.Linear (record {
+  terms = stated_weights names (scale_of s) s.terms;
+  side = on;
+  right = scaled (scale_of s) value;
+})
+
+-- what a statement says, over numbers: one bound, and an upper one too where it is an interval
+abbrev pub stated_in : List Name → Statement → List meaning.Bound
+stated_in names (Plain s) = stated_bound names s s.side s.value ∷ map (stated_bound names s side.AtMost) (option_to_list s.upper)
+stated_in names (Linear s) = stated_sum names s s.side s.value ∷ map (stated_sum names s side.AtMost) (option_to_list s.upper)
+
+-- what statements say, over numbers
 abbrev pub stated_bounds : List Name → List Statement → List meaning.Bound
 stated_bounds names [] = []
-stated_bounds names (s ∷ ss) = stated_bound names s s.side s.value
-    ∷ map (stated_bound names s side.AtMost) (option_to_list s.upper) ++ stated_bounds names ss
+stated_bounds names (s ∷ ss) = stated_in names s ++ stated_bounds names ss
 
 -- what the statements of items say, over numbers
 abbrev pub stated_by : List Item → List meaning.Bound

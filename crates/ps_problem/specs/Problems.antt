@@ -1,6 +1,10 @@
 -- What the numbers of a problem stand for, and which problems are in order.
-use Rattle.std.specs.Prelude.{◌≡◌, ◌≢◌, ◌≤◌, ◌<◌, ◌-◌, ◌==◌, if◌then◌else◌, slice_get, ℕ, pos, List}
-use Rattle.std.specs.Prelude.{[], ◌∷◌, Option, Some, None, length, map, All, AllPairs, IfSome, slice_index_or}
+use Rattle.std.specs.Prelude.{◌≡◌, ◌≢◌, ◌≤◌, ◌<◌, ◌+◌, ◌-◌, ◌==◌, if◌then◌else◌, slice_get, ℕ, ℤ, pos, Bool, true, false, List}
+use Rattle.std.specs.Prelude.{[], ◌∷◌, ◌++◌, Option, Some, None, is_some, unwrap_or, IsSome, length, map, All, AllPairs, IfSome}
+use Rattle.std.specs.Prelude.{slice_index_or, unsigned_abs}
+use Rattle.ps_meaning.specs.declared.side.Side.{Side}
+use Rattle.ps_meaning.specs.declared.side.Side.TheVariants.{AtLeast, AtMost}
+use Rattle.ps_text.specs.declared.limits.TheConstants.{MOST_TERMS}
 use Rattle.ps_meaning.specs.Formula.{Formula, Truth, And}
 use Rattle.ps_meaning.specs.Bounds as meaning
 use Rattle.ps_meaning.specs.Statements.{Name}
@@ -8,8 +12,11 @@ use Rattle.ps_formula.specs.Nodes.{trees, AreNodes, AtomBelow}
 use Rattle.ps_formula.specs.declared.node.Node.{Node}
 use Rattle.ps_formula.specs.declared.limits.TheConstants.{MOST_ATOMS, MOST_NODES}
 use Rattle.ps_problem.specs.declared.limits.TheConstants.{MOST_BOUNDS, MOST_QUERIES, MOST_DENOMINATOR}
+use Rattle.ps_problem.specs.declared.limits.TheConstants.{GREATEST_SCALE, MOST_SIZES}
 use Rattle.ps_problem.specs.declared.bound.Bound.{Bound}
+use Rattle.ps_problem.specs.declared.sentence.Linear.{Linear}
 use Rattle.ps_problem.specs.declared.sentence.Sentence.{Sentence}
+use Rattle.ps_problem.specs.declared.sentence.Sentence.TheVariants as sentence
 use Rattle.ps_problem.specs.declared.query.Query.{Query}
 
 -- the names of the atoms, the nodes, the sentences and the queries of a problem
@@ -23,17 +30,34 @@ pub record Parts : Type 0 where
 abbrev pub parts_of : List Name → List Node → List Sentence → List Query → Parts
 parts_of names nodes sentences queries = record { names = names; nodes = nodes; sentences = sentences; queries = queries }
 
--- the bounds of sentences in order: one of each, and of an interval a second
-abbrev pub bounds_in : List Sentence → List Bound
+-- a bound of a sentence: a plain one, or that of a linear sentence, its upper one where the second is true
+pub data BoundIn : Type 0 where
+  PlainIn : (bound : Bound) → BoundIn
+  LinearIn : (linear : Linear) (upper : Bool) → BoundIn
+
+-- the side of a linear sentence's bound
+abbrev pub side_at : Linear → Bool → Side
+side_at l false = l.side
+side_at l true = AtMost
+
+-- the right side of a linear sentence's bound
+abbrev pub right_at : Linear → Bool → ℤ
+right_at l false = l.right
+right_at l true = unwrap_or l.upper l.right
+
+-- the bounds of a sentence: one, and of an interval a second
+abbrev pub bounds_of_sentence : Sentence → List BoundIn
+bounds_of_sentence (sentence.Plain first None) = PlainIn first ∷ []
+bounds_of_sentence (sentence.Plain first (Some second)) = PlainIn first ∷ PlainIn second ∷ []
+bounds_of_sentence (sentence.Linear l) = LinearIn l false ∷ (if is_some l.upper then LinearIn l true ∷ [] else [])
+
+-- the bounds of sentences in order
+abbrev pub bounds_in : List Sentence → List BoundIn
 bounds_in [] = []
-bounds_in (s ∷ ss) = s.first ∷ with_second s.second (bounds_in ss)
-  where
-    with_second : Option Bound → List Bound → List Bound
-    with_second None bs = bs
-    with_second (Some b) bs = b ∷ bs
+bounds_in (s ∷ ss) = bounds_of_sentence s ++ bounds_in ss
 
 -- the bound of sentences by its number, from 1
-abbrev pub bound_at : List Sentence → ℕ → Option Bound
+abbrev pub bound_at : List Sentence → ℕ → Option BoundIn
 bound_at ss i = if i == 0 then None else slice_get (bounds_in ss) (i - 1)
 
 -- the name of a number
@@ -49,15 +73,25 @@ abbrev pub given_at : List Node → Option ℕ → Formula ℕ
 given_at ns None = Truth
 given_at ns (Some g) = tree_at ns g
 
+-- the formulas of nodes, each with its number
+abbrev pub weights_at : List Node → List (ℕ × ℤ) → meaning.Weights
+weights_at ns [] = []
+weights_at ns (t ∷ ts) = (tree_at ns t.0, t.1) ∷ weights_at ns ts
+
 -- the bound that a bound's numbers stand for
-abbrev pub bound_of : List Node → Bound → meaning.Bound
-bound_of ns b = record {
+abbrev pub bound_of : List Node → BoundIn → meaning.Bound
+bound_of ns (PlainIn b) = meaning.Plain (record {
   formula = tree_at ns b.formula;
   given = given_at ns b.given;
   side = b.side;
   num = pos b.num;
   den = pos b.den;
-}
+})
+bound_of ns (LinearIn l upper) = meaning.Linear (record {
+  terms = weights_at ns l.terms;
+  side = side_at l upper;
+  right = right_at l upper;
+})
 
 -- the bounds that a problem's sentences stand for
 abbrev pub bounds_of : Parts → List meaning.Bound
@@ -82,9 +116,47 @@ pub record IsBound (ns : List Node) (b : Bound) : Type 0 where
   pub den_most : b.den ≤ MOST_DENOMINATOR
   pub num_most : b.num ≤ b.den
 
--- each bound is over nodes that are there, with such a value
-abbrev pub AreBounds : List Node → List Bound → Type 0
-AreBounds ns bs = All (IsBound ns) bs
+-- the sum of the sizes of terms' numbers
+abbrev pub terms_size : List (ℕ × ℤ) → ℕ
+terms_size [] = 0
+terms_size (t ∷ ts) = unsigned_abs t.1 + terms_size ts
+
+-- the sizes of terms' numbers and of a right side sum to no more than they may
+abbrev pub AreSmall : List (ℕ × ℤ) → ℤ → Type 0
+AreSmall ts right = unsigned_abs right + terms_size ts ≤ MOST_SIZES
+
+-- the node is there
+abbrev pub IsTerm : List Node → ℕ × ℤ → Type 0
+IsTerm ns t = t.0 < length ns
+
+-- a linear sentence is over nodes that are there, no more than may be, its numbers are within their limits, and an interval's
+-- lower side is at least
+pub record IsLinear (ns : List Node) (l : Linear) : Type 0 where
+  pub some : 1 ≤ length l.terms
+  pub few : length l.terms ≤ MOST_TERMS
+  pub nodes : All (IsTerm ns) l.terms
+  pub scale_least : 1 ≤ l.scale
+  pub scale_most : l.scale ≤ GREATEST_SCALE
+  pub small : AreSmall l.terms l.right
+  pub small_upper : IfSome l.upper (AreSmall l.terms)
+  pub side : IfSome l.upper (λ r. l.side ≡ AtLeast)
+
+-- an upper bound is that of an interval
+abbrev pub HasUpper : Linear → Bool → Type 0
+HasUpper l upper = upper ≡ true → IsSome l.upper
+
+-- the bound is over nodes that are there, and its numbers are within their limits
+abbrev pub IsBoundIn : List Node → BoundIn → Type 0
+IsBoundIn ns (PlainIn b) = IsBound ns b
+IsBoundIn ns (LinearIn l upper) = IsLinear ns l × HasUpper l upper
+
+-- each bound is
+abbrev pub AreBounds : List Node → List BoundIn → Type 0
+AreBounds ns bs = All (IsBoundIn ns) bs
+
+-- the bounds of a sentence are over nodes that are there, and its numbers are within their limits
+abbrev pub IsSentence : List Node → Sentence → Type 0
+IsSentence ns s = AreBounds ns (bounds_of_sentence s)
 
 -- a problem within the limits, whose numbers are in range
 pub record AreParts (p : Parts) : Type 0 where

@@ -1,30 +1,37 @@
 //! The making of a problem.
 ghost use Rattle.std.specs.Prelude.{◌≡◌, ◌++◌, ◌<◌, ◌≤◌, ◌+◌, [], ◌∷◌, All, OnOk, IfOk, IfErr};
-ghost use Rattle.std.specs.Prelude.{length, map, is_some, if◌then◌else◌};
-ghost use Rattle.ps_problem.specs.Problems.{bounds_in, name_at};
+ghost use Rattle.std.specs.Prelude.{length, nat_lt, map, option_map, IfSome, if◌then◌else◌};
+ghost use Rattle.ps_problem.specs.declared.limits.TheConstants.{GREATEST_SCALE, MOST_BOUNDS};
+ghost use Rattle.ps_problem.specs.declared.draft_item.DraftItem.TheVariants as items;
+ghost use Rattle.ps_problem.specs.declared.sentence.Sentence.TheVariants as sentences;
+ghost use Rattle.ps_problem.specs.Problems.{name_at};
+ghost use Rattle.ps_problem.specs.Rows.{rows_in, HasSmallRights};
+ghost use Rattle.ps_problem.specs.Scales.{scaled, fraction_of, IsNumber, AreNumbers};
 ghost use Rattle.ps_problem.specs.Builds.{TellsExcess, IsBuilt};
-ghost use Rattle.ps_problem.specs.Making.{IsExcess, bound_on, sentence_on};
+ghost use Rattle.ps_problem.specs.Making.{IsExcess, bound_on, sentence_on, linear_on, IsItemAt};
 ghost use Rattle.ps_problem.specs.Making.{SentencesMade, QueriesMade};
 
 use crate::building::Building;
-use crate::draft_item::{DraftItem, DraftSentence};
+use crate::draft_item::{DraftItem, DraftLinear, DraftSentence};
 use crate::excess::Excess;
 use crate::fault::Fault;
 use crate::limits::{MOST_BOUNDS, MOST_QUERIES};
 use crate::names::Names;
-use crate::{Bound, BuildError, Draft, Problem, Queries, Query, Sentence, Sentences, Side};
+use crate::rows::push_rows;
+use crate::scale::{small_scale, whole};
+use crate::{
+    Bound, BuildError, Draft, Linear, LinearTerms, Problem, Queries, Query, Row, Sentence,
+    Sentences, Side, Signed,
+};
 use ps_io::{List, NoMemory};
 use std::alloc::Global;
 
-// The number of bounds of a sentence with this upper value.
-fn count(upper: Option<(u32, u32)>) -> usize
-    ensures count { result ≡ (if is_some upper then 2 else 1) }
+// The number of bounds of a sentence that is an interval or not.
+fn count(is_interval: bool) -> usize
+    ensures count { result ≡ (if is_interval then 2 else 1) }
     ensures few { result ≤ 2 }
 {
-    match upper {
-        Some(_) => 2,
-        None => 1,
-    }
+    if is_interval { 2 } else { 1 }
 }
 
 // The bound on a query's formula.
@@ -46,28 +53,38 @@ fn sentence(query: Query, item: DraftSentence) -> Sentence
     ensures { result ≡ sentence_on query item }
 {
     let first = bound(query, item.side, item.num, item.den);
-    match item.upper {
-        Some((num, den)) => Sentence {
-            first,
-            second: Some(bound(query, Side::AtMost, num, den)),
-        },
-        None => Sentence {
-            first,
-            second: None,
-        },
+    let second = match item.upper {
+        Some((num, den)) => Some(bound(query, Side::AtMost, num, den)),
+        None => None,
+    };
+    Sentence::Plain { first, second }
+}
+
+// An upper value times a scale.
+fn whole_upper(scale: u32, upper: Option<Signed>) -> Option<i64>
+    requires upper { IfSome upper IsNumber }
+    requires small { scale ≤ GREATEST_SCALE }
+    ensures { result ≡ option_map (λ u. scaled scale (fraction_of u)) upper }
+{
+    match upper {
+        Some(upper) => Some(whole(scale, upper)),
+        None => None,
     }
 }
 
-/// Puts a sentence's bounds behind those before them. For want of memory perhaps only the first of
-/// an interval's two.
-pub fn push_bounds(bounds: &mut List<Bound>, sentence: Sentence) -> Result<(), NoMemory>
-    ensures { OnOk result (bounds.new ≡ bounds.old ++ bounds_in (sentence ∷ [])) }
+// The sentence of an item over terms by node.
+fn linear(terms: LinearTerms, scale: u32, item: &DraftLinear) -> Sentence
+    requires numbers { AreNumbers item.now }
+    requires small { scale ≤ GREATEST_SCALE }
+    ensures { result ≡ sentences.Linear (linear_on terms scale item.now) }
 {
-    bounds.push(sentence.first)?;
-    match sentence.second {
-        Some(second) => bounds.push(second),
-        None => Ok(()),
-    }
+    Sentence::Linear(Linear {
+        terms,
+        scale,
+        side: item.side,
+        right: whole(scale, item.right),
+        upper: whole_upper(scale, item.upper),
+    })
 }
 
 // Names by number.
@@ -88,11 +105,78 @@ fn copies(alloc: Global, names: &Names, numbers: &[u32]) -> Result<List<Vec<u8>>
 pub(crate) struct Assembly {
     building: Building,
     sentences: Sentences,
-    bounds: List<Bound>,
+    rows: List<Row>,
     queries: Queries,
 }
 
 impl Assembly {
+    // Whether the bounds of one more sentence, an interval or not, are too many.
+    fn is_full(&self, is_interval: bool) -> bool
+        ensures { result ≡ nat_lt MOST_BOUNDS
+            (length self.now.rows + (if is_interval then 2 else 1)) }
+    {
+        self.rows.len() > MOST_BOUNDS - count(is_interval)
+    }
+
+    // Puts a sentence behind those before it.
+    fn push(&mut self, alloc: Global, sentence: Sentence) -> Result<(), NoMemory>
+        requires { HasSmallRights sentence }
+        ensures building { OnOk result (self.new.building ≡ self.old.building) }
+        ensures rows { OnOk result (self.new.rows ≡ self.old.rows ++ rows_in (sentence ∷ [])) }
+        ensures sentences { OnOk result (self.new.sentences ≡ self.old.sentences ++ sentence ∷ []) }
+        ensures queries { OnOk result (self.new.queries ≡ self.old.queries) }
+    {
+        push_rows(alloc, &mut self.rows, &sentence)?;
+        self.sentences.push(sentence)
+    }
+
+    // Makes a plain sentence.
+    fn plain(
+        &mut self,
+        alloc: Global,
+        draft: &Draft,
+        i: u32,
+        item: DraftSentence,
+    ) -> Result<(), Fault>
+        requires item { IsItemAt draft.now i (items.Sentence item) }
+        requires before { SentencesMade draft.now i self.old }
+        ensures ok { OnOk result (SentencesMade draft.now (i + 1) self.new) }
+        ensures err { IfErr result (IsExcess draft.now.items (i + 1)) }
+    {
+        if self.is_full(item.upper.is_some()) {
+            return Err(Fault::TooMany(Excess::Bounds));
+        }
+        let query = self.building.query(alloc, draft, item.formula, item.given)?;
+        self.push(alloc, sentence(query, item))?;
+        Ok(())
+    }
+
+    // Makes a linear sentence.
+    fn linear(
+        &mut self,
+        alloc: Global,
+        draft: &Draft,
+        i: u32,
+        item: &DraftLinear,
+    ) -> Result<(), Fault>
+        requires item { IsItemAt draft.now i (items.Linear item.now) }
+        requires before { SentencesMade draft.now i self.old }
+        ensures ok { OnOk result (SentencesMade draft.now (i + 1) self.new) }
+        ensures err { IfErr result (IsExcess draft.now.items (i + 1)) }
+    {
+        let scale = match small_scale(item) {
+            Some(scale) => scale,
+            None => return Err(Fault::TooMany(Excess::Numbers)),
+        };
+        if self.is_full(item.upper.is_some()) {
+            return Err(Fault::TooMany(Excess::Bounds));
+        }
+        let terms = item.terms.as_slice();
+        let terms = self.building.terms(alloc, draft, terms, scale)?;
+        self.push(alloc, linear(terms, scale, item))?;
+        Ok(())
+    }
+
     // Makes the sentence of an item that is one.
     fn sentence(&mut self, alloc: Global, draft: &Draft, i: u32) -> Result<(), Fault>
         requires item { i < length draft.now.items }
@@ -100,18 +184,11 @@ impl Assembly {
         ensures ok { OnOk result (SentencesMade draft.now (i + 1) self.new) }
         ensures err { IfErr result (IsExcess draft.now.items (i + 1)) }
     {
-        let item = match draft.item(i) {
-            DraftItem::Sentence(sentence) => sentence,
-            DraftItem::Query(_) => return Ok(()),
-        };
-        if self.bounds.len() > MOST_BOUNDS - count(item.upper) {
-            return Err(Fault::TooMany(Excess::Bounds));
+        match draft.item(i) {
+            DraftItem::Sentence(item) => self.plain(alloc, draft, i, *item),
+            DraftItem::Linear(item) => self.linear(alloc, draft, i, item),
+            DraftItem::Query(_) => Ok(()),
         }
-        let query = self.building.query(alloc, draft, item.formula, item.given)?;
-        let made = sentence(query, item);
-        push_bounds(&mut self.bounds, made)?;
-        self.sentences.push(made)?;
-        Ok(())
     }
 
     // Makes the query of an item that is one.
@@ -122,8 +199,9 @@ impl Assembly {
         ensures err { IfErr result (IsExcess draft.now.items (i + 1)) }
     {
         let item = match draft.item(i) {
-            DraftItem::Query(query) => query,
+            DraftItem::Query(query) => *query,
             DraftItem::Sentence(_) => return Ok(()),
+            DraftItem::Linear(_) => return Ok(()),
         };
         if self.queries.len() >= MOST_QUERIES {
             return Err(Fault::TooMany(Excess::Queries));
@@ -175,7 +253,7 @@ pub fn build(alloc: Global, draft: &Draft) -> Result<Problem, BuildError>
     let mut assembly = Assembly {
         building: Building::new(alloc),
         sentences: List::new(alloc),
-        bounds: List::new(alloc),
+        rows: List::new(alloc),
         queries: List::new(alloc),
     };
     assembly.sentences(alloc, draft)?;
@@ -186,7 +264,7 @@ pub fn build(alloc: Global, draft: &Draft) -> Result<Problem, BuildError>
         texts,
         building.formulas,
         assembly.sentences,
-        assembly.bounds,
+        assembly.rows,
         assembly.queries,
     ))
 }

@@ -22,6 +22,10 @@ pub enum BuildError {
     /// With the item there are more than `MOST_QUERIES` queries.
     #[error("too many queries at item {item}")]
     TooManyQueries { item: u32 },
+    /// The scale of the item, a linear sentence, is more than `GREATEST_SCALE`, or the sizes of a
+    /// bound's whole numbers sum to more than `MOST_SIZES`.
+    #[error("linear sentence too large at item {item}")]
+    LinearTooLarge { item: u32 },
     /// There was not enough memory.
     #[error("not enough memory")]
     NoMemory,
@@ -37,6 +41,7 @@ impl BuildError {
             Excess::Nodes => BuildError::TooManyNodes { item },
             Excess::Bounds => BuildError::TooManyBounds { item },
             Excess::Queries => BuildError::TooManyQueries { item },
+            Excess::Numbers => BuildError::LinearTooLarge { item },
         }
     }
 }

@@ -5,11 +5,16 @@ ghost use Rattle.ps_problem.specs.Numbering.{place_in};
 ghost use Rattle.ps_problem.specs.Drafts.{arity, AreBelow};
 ghost use Rattle.ps_problem.specs.Numbered.{Built, node_over, IsAdded, NumbersAtom};
 ghost use Rattle.ps_problem.specs.Numbered.{NumbersMark, NumbersParts, NumbersQuestion, replaced};
+ghost use Rattle.ps_problem.specs.Numbered.{NumbersTerms};
+ghost use Rattle.ps_problem.specs.Drafts.{IsDraftTerm};
+ghost use Rattle.ps_problem.specs.Scales.{IsNumberTerm};
+ghost use Rattle.ps_problem.specs.declared.limits.TheConstants.{GREATEST_SCALE};
 ghost use Rattle.ps_formula.specs.declared.limits.TheConstants.{MOST_ATOMS};
 
 use crate::excess::Excess;
 use crate::fault::Fault;
-use crate::{Draft, Mark, Query};
+use crate::scale::whole;
+use crate::{Draft, LinearTerms, Mark, Query, Term};
 use ps_formula::{AddError, Formulas, MOST_ATOMS, Node};
 use ps_io::{List, NoMemory};
 use std::alloc::Global;
@@ -161,6 +166,31 @@ impl Building {
             given: Some(second),
             both,
         })
+    }
+}
+
+impl Building {
+    // Numbers the parts of terms' formulas in order, and gives their numbers, each with the term's
+    // coefficient times a scale.
+    pub(crate) fn terms(
+        &mut self,
+        alloc: Global,
+        draft: &Draft,
+        terms: &[Term],
+        scale: u32,
+    ) -> Result<LinearTerms, Fault>
+        requires terms { All (IsDraftTerm (length draft.now.formulas)) terms.now }
+        requires numbers { All IsNumberTerm terms.now }
+        requires small { scale ≤ GREATEST_SCALE }
+        requires built { Built draft.now.names self.old.atoms self.old.formulas }
+        ensures { NumbersTerms draft.now self.old scale terms.now self.new result }
+    {
+        let mut made = List::new(alloc);
+        for term in terms {
+            let number = self.formula(alloc, draft, term.formula)?;
+            made.push((number, whole(scale, term.coefficient)))?;
+        }
+        Ok(made)
     }
 }
 

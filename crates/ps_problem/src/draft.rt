@@ -6,15 +6,18 @@ ghost use Rattle.ps_problem.specs.declared.limits.TheConstants.{MOST_DRAFTED, MO
 ghost use Rattle.ps_problem.specs.Numbering.{AreOnce, same_name};
 ghost use Rattle.ps_problem.specs.DraftLists.{AreMarks, root, item_of, IsDraftItem};
 ghost use Rattle.ps_text.specs.Canonical.{canonical_nesting, IsReduced, IsUpper};
+ghost use Rattle.ps_text.specs.Canonical.{IsReducedWeight, IsSumUpper};
+ghost use Rattle.ps_text.specs.declared.limits.TheConstants.{MOST_TERMS};
 ghost use Rattle.ps_problem.specs.Drafts.{arity, NameBelow, formula_at};
 ghost use Rattle.ps_problem.specs.Drafts.{AreBelow, ratio_of, HasReducedValues, IsNested};
 ghost use Rattle.ps_problem.specs.Drafts.{with_name, with_mark, with_formula};
-ghost use Rattle.ps_problem.specs.Drafts.{with_statement, with_question};
+ghost use Rattle.ps_problem.specs.Drafts.{with_statement, with_sum, with_question};
+ghost use Rattle.ps_problem.specs.Drafts.{signed_of, IsDraftTerm};
 
-use crate::draft_item::{DraftItem, DraftQuery, DraftSentence};
+use crate::draft_item::{DraftItem, DraftLinear, DraftQuery, DraftSentence};
 use crate::names::Names;
 use crate::span::Span;
-use crate::{Mark, Side};
+use crate::{Mark, Side, Signed, Term};
 use ps_io::{List, NoMemory};
 use std::alloc::Global;
 use std::marker::Model;
@@ -28,6 +31,7 @@ pub struct Draft {
     ended: usize,
     spans: List<Span>,
     items: List<DraftItem>,
+    alloc: Global,
 }
 
 impl Model for Draft {
@@ -57,6 +61,7 @@ impl Draft {
             ended: 0,
             spans: List::new(alloc),
             items: List::new(alloc),
+            alloc,
         }
     }
 
@@ -131,6 +136,33 @@ impl Draft {
         }))
     }
 
+    /// Adds a linear sentence: the sum of some terms on a side of a value; with an upper value, at
+    /// least the one and at most the other.
+    pub fn linear(
+        &mut self,
+        terms: &[Term],
+        side: Side,
+        right: Signed,
+        upper: Option<Signed>,
+    ) -> Result<(), NoMemory>
+        requires terms { All (IsDraftTerm (length self.old.formulas)) terms.now }
+        requires some { 1 ≤ length terms.now }
+        requires few { length terms.now ≤ MOST_TERMS }
+        requires value { IsReducedWeight (signed_of right) }
+        requires upper { IsSumUpper side (option_map signed_of upper) }
+        requires room { length self.old.items < MOST_DRAFTED }
+        ensures ok { OnOk result (self.new ≡ with_sum self.old terms.now side right upper) }
+        ensures err { OnErr result (self.new ≡ self.old) }
+    {
+        let terms = List::from_vec(terms.to_vec(self.alloc)?);
+        self.items.push(DraftItem::Linear(DraftLinear {
+            terms,
+            side,
+            right,
+            upper,
+        }))
+    }
+
     /// Adds a query for the probability of a formula, perhaps given a condition.
     pub fn query(&mut self, formula: u32, given: Option<u32>) -> Result<(), NoMemory>
         requires formulas { AreBelow (length self.old.formulas) formula given }
@@ -170,11 +202,11 @@ impl Draft {
     }
 
     // The item of a number, from 0.
-    pub(crate) fn item(&self, i: u32) -> DraftItem
+    pub(crate) fn item(&self, i: u32) -> &DraftItem
         requires { i < length self.now.items }
-        ensures item { slice_get self.now.items i ≡ Some (item_of self.now.formulas result) }
-        ensures sound { IsDraftItem (length self.now.formulas) result }
+        ensures item { slice_get self.now.items i ≡ Some (item_of self.now.formulas result.now) }
+        ensures sound { IsDraftItem (length self.now.formulas) result.now }
     {
-        self.items.as_slice()[i as usize]
+        &self.items.as_slice()[i as usize]
     }
 }

@@ -1,5 +1,6 @@
 //! Items over formulas by the numbers that a draft gave them.
-use crate::Side;
+use crate::{Side, Signed, Term};
+use ps_io::List;
 
 /// A sentence: the probability of a formula, perhaps given a condition, on a side of `num/den`;
 /// with an upper value, at least `num/den` and at most that.
@@ -13,6 +14,16 @@ pub(crate) struct DraftSentence {
     pub(crate) upper: Option<(u32, u32)>,
 }
 
+/// A linear sentence: the sum of its terms on a side of a value; with an upper value, at least the
+/// one and at most the other.
+#[derive(Debug, Drop)]
+pub(crate) struct DraftLinear {
+    pub(crate) terms: List<Term>,
+    pub(crate) side: Side,
+    pub(crate) right: Signed,
+    pub(crate) upper: Option<Signed>,
+}
+
 /// A query for the probability of a formula, perhaps given a condition.
 #[derive(Clone, Copy, Debug, PartialEq, Eq)]
 pub(crate) struct DraftQuery {
@@ -21,8 +32,9 @@ pub(crate) struct DraftQuery {
 }
 
 /// A sentence or a query of a draft.
-#[derive(Clone, Copy, Debug, PartialEq, Eq)]
+#[derive(Debug, Drop)]
 pub(crate) enum DraftItem {
     Sentence(DraftSentence),
+    Linear(DraftLinear),
     Query(DraftQuery),
 }

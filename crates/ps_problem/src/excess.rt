@@ -11,4 +11,6 @@ pub enum Excess {
     Bounds,
     /// Queries.
     Queries,
+    /// The numbers of a linear sentence.
+    Numbers,
 }

@@ -1,4 +1,5 @@
 //! What the numbering of a text's items keeps. A call does nothing: its contract is the law.
+ghost use Rattle.ps_problem.specs.Rows.{BoundsAreRows};
 ghost use Rattle.ps_problem.specs.Laws.{BoundsAreStated, QueriesAreAsked, CanonicalTextsAreReread};
 
 /// The problem of some items says what they say: its bounds are those of the statements and its
@@ -11,4 +12,9 @@ pub fn numbering_keeps_meaning()
 /// The canonical text of a problem is read as the problem.
 pub fn canonical_text_is_reread()
     ensures { CanonicalTextsAreReread }
+{}
+
+/// A bound of a problem is met by exactly the distributions that meet its row.
+pub fn bounds_are_rows()
+    ensures { BoundsAreRows }
 {}

@@ -1,13 +1,17 @@
 //! A problem: atoms by name, formulas, sentences and queries.
-ghost use Rattle.std.specs.Prelude.{◌≡◌, ◌≤◌, All, length, map, option_copied, slice_get};
+ghost use Rattle.std.specs.Prelude.{◌≡◌, ◌≤◌, All, length, map, option_copied, option_map, slice_get};
+ghost use Rattle.std.specs.Prelude.{IfSome};
 ghost use Rattle.ps_formula.specs.Nodes.{AreNodes, AtomBelow};
 ghost use Rattle.ps_formula.specs.declared.limits.TheConstants.{MOST_ATOMS};
 ghost use Rattle.ps_problem.specs.declared.limits.TheConstants.{MOST_BOUNDS, MOST_QUERIES};
-ghost use Rattle.ps_problem.specs.Problems.{parts_of, AreBounds, AreParts, HasNodes};
+ghost use Rattle.ps_problem.specs.Problems.{parts_of, AreParts, HasNodes, IsBoundIn};
 ghost use Rattle.ps_problem.specs.Problems.{bounds_in, bound_at};
 ghost use Rattle.ps_problem.specs.Soundness.{IsProblem};
+ghost use Rattle.ps_problem.specs.Shown.{shown};
+ghost use Rattle.ps_problem.specs.Rows.{rows_in, IsRow};
 
-use crate::{Bound, Queries, Sentences};
+use crate::sentence::bound_in;
+use crate::{BoundAt, Queries, Row, Sentences};
 use ps_formula::Formulas;
 use ps_io::List;
 use std::marker::Model;
@@ -19,13 +23,14 @@ pub struct Problem {
     names: List<Vec<u8>>,
     formulas: Formulas,
     sentences: Sentences,
-    bounds: List<Bound>,
+    rows: List<Row>,
     queries: Queries,
 }
 
 impl Model for Problem {
     ghost use Rattle.std.specs.Prelude.{◌≡◌, map};
-    ghost use Rattle.ps_problem.specs.Problems.{Parts, parts_of, bounds_in};
+    ghost use Rattle.ps_problem.specs.Problems.{Parts, parts_of};
+    ghost use Rattle.ps_problem.specs.Rows.{rows_in};
     ghost use Rattle.ps_problem.specs.Soundness.{IsProblem};
 
     ghost Value = { Parts };
@@ -34,7 +39,7 @@ impl Model for Problem {
 
     ghost invariant = { λ p.
         IsProblem (parts_of (map (λ v. v.items) p.names) p.formulas p.sentences p.queries)
-        × (p.bounds ≡ bounds_in p.sentences) };
+        × (p.rows ≡ rows_in p.sentences) };
 }
 
 impl Problem {
@@ -43,18 +48,18 @@ impl Problem {
         names: List<Vec<u8>>,
         formulas: Formulas,
         sentences: Sentences,
-        bounds: List<Bound>,
+        rows: List<Row>,
         queries: Queries,
     ) -> Problem
         requires is { IsProblem (parts_of (map (λ v. v.items) names) formulas sentences queries) }
-        requires bounds { bounds ≡ bounds_in sentences }
+        requires rows { rows ≡ rows_in sentences }
         ensures { result ≡ parts_of (map (λ v. v.items) names) formulas sentences queries }
     {
         Problem {
             names,
             formulas,
             sentences,
-            bounds,
+            rows,
             queries,
         }
     }
@@ -107,25 +112,26 @@ impl Problem {
         ensures bounds { result ≡ length (bounds_in self.now.sentences) }
         ensures few { result ≤ MOST_BOUNDS }
     {
-        self.bounds.len() as u32
+        self.rows.len() as u32
     }
 
     /// A bound by its number from 1, over the sentences in order; `None` where there is no such
     /// bound.
-    pub fn bound(&self, i: u32) -> Option<&Bound>
-        ensures bound { option_copied result ≡ bound_at self.now.sentences i }
+    pub fn bound(&self, i: u32) -> Option<BoundAt<'_>>
+        ensures bound { option_map shown result ≡ bound_at self.now.sentences i }
+        ensures sound { IfSome result (λ b. IsBoundIn self.now.nodes (shown b)) }
     {
         let place = i.checked_sub(1)?;
-        self.bounds.get(place as usize)
+        bound_in(self.sentences.as_slice(), place)
     }
 
-    /// All bounds in order, those of sentence 1 first.
-    pub fn bound_list(&self) -> &[Bound]
-        ensures bounds { result.now ≡ bounds_in self.now.sentences }
-        ensures sound { AreBounds self.now.nodes result.now }
+    /// The rows of all bounds in order, those of sentence 1 first.
+    pub fn rows(&self) -> &[Row]
+        ensures rows { result.now ≡ rows_in self.now.sentences }
+        ensures sound { All (IsRow self.now.nodes) result.now }
         ensures parts { AreParts self.now }
         ensures few { length result.now ≤ MOST_BOUNDS }
     {
-        self.bounds.as_slice()
+        self.rows.as_slice()
     }
 }

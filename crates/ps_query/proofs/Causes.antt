@@ -24,6 +24,7 @@ use Rattle.ps_answer.specs.declared.answer.Cause.{Cause}
 use Rattle.ps_answer.specs.declared.answer.Cause.TheVariants.{Pivots, Conflicts, Wide}
 use Rattle.ps_answer.specs.Items.{IsReducedWithin, IsRatioWithin}
 use Rattle.ps_answer.specs.Answers.{ratio_of, cause_items}
+use Rattle.ps_claims.proofs.ProblemRows.{rows_many}
 use Rattle.ps_claims.specs.declared.claim_kind.ClaimKind.{ClaimKind}
 use Rattle.ps_runs.specs.declared.limits.Limits.{Limits}
 use Rattle.ps_runs.specs.Rows.{rows_of}
@@ -69,8 +70,9 @@ fit_goal g h = ((coefficients g.terms h.normal.positive, h.normal.rising), h)
 pub few_rows : (p : Parts) (q : Option stored.Query) → AreParts p → rows_of (setting_of (record { parts = p; query = q })) ≤ MOST_ROWS
 few_rows p q are =
     let few = are.few_bounds in
+    let many = rows_many p in
     let same = length-map (bounds_in p.sentences) (bound_of p.nodes) in
-    omega (arith, few, same)
+    omega (arith, few, many, same)
 
 module _ (p : Parts) (q : Option stored.Query) (limits : Limits) (within : AreLimits p limits) (Q : LineItem → Type 0) (Open : Type 0) (lines : AreLines limits.pivots Q Open) where
   abbrev s : Subject

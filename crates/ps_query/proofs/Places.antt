@@ -15,11 +15,11 @@ use Rattle.ps_answer.specs.declared.limits.TheConstants.{MOST_WORLD}
 use Rattle.ps_table.specs.Places.{Operation, PivotPlace, at_scale, at_times, at_minus, CostPlace, at_cost}
 use Rattle.ps_table.specs.Places.{PricePlace, at_price_times, at_price_plus, ColumnPlace, at_column_times, at_column_plus}
 use Rattle.ps_table.specs.Places.{MultiplierPlace, at_whole, at_scaled, WeightPlace, at_weight, at_weighed, at_total}
-use Rattle.ps_bland.specs.DuePlaces.{DuePlace, of_slack, of_artificial, of_price, of_column, of_ratio, of_pivot}
+use Rattle.ps_bland.specs.DuePlaces.{DuePlace, WorldColumns, of_slack, of_artificial, of_price, of_column, of_ratio, of_pivot}
 use Rattle.ps_claims.specs.declared.claim_kind.ClaimKind.{ClaimKind}
 use Rattle.ps_runs.specs.Rows.{rows_of}
 use Rattle.ps_runs.specs.Subjects.{Subject, setting_of, program_of}
-use Rattle.ps_runs.specs.Runs.{Stage}
+use Rattle.ps_runs.specs.Runs.{Stage, worlds_at}
 use Rattle.ps_runs.specs.Licences.{DueAt, for_pivots, for_dual, for_model}
 use Rattle.ps_answer.specs.Items.{IsWorldWithin, IsColWithin, IsShownWithin, IsPlaceWithin}
 
@@ -74,19 +74,19 @@ module _ (rows most : ℕ) where
   weight_under basic X _ (at_weighed i h k) = h
   weight_under basic X _ (at_total i h k) = h
 
-module _ (phase : Phase) (t : SimplexTable) (worlds : ℕ) (entries : ℕ → List ℤ) (left : ℕ) (cost : ℕ → Rational) where
-  settle_under : (o : Operation) → DuePlace phase t worlds entries left cost o → IsPlaceUnder t.rows worlds o.place
-  settle_under _ (of_slack m o unfinished low slack least h) = cost_under t.rows worlds cost t.basic t.entry (col.Home m) o low h
-  settle_under _ (of_artificial m o unfinished low artificial least h) = cost_under t.rows worlds cost t.basic t.entry (col.Home m) o low h
-  settle_under _ (of_price k o unfinished some many least h) = price_under t.rows worlds _ (entries k) k o (some, many) h
-  settle_under _ (of_column k i o unfinished pivots some many enters row h) = column_under t.rows worlds t.entry (entries k) k i o (some, many) row h
+module _ (phase : Phase) (t : SimplexTable) (worlds : WorldColumns) (left : ℕ) (cost : ℕ → Rational) where
+  settle_under : (o : Operation) → DuePlace phase t worlds left cost o → IsPlaceUnder t.rows worlds.count o.place
+  settle_under _ (of_slack m o unfinished low slack least h) = cost_under t.rows worlds.count cost t.basic t.entry (col.Home m) o low h
+  settle_under _ (of_artificial m o unfinished low artificial least h) = cost_under t.rows worlds.count cost t.basic t.entry (col.Home m) o low h
+  settle_under _ (of_price k o unfinished some many least h) = price_under t.rows worlds.count _ (worlds.entries k) k o (some, many) h
+  settle_under _ (of_column k i o unfinished pivots some many enters row h) = column_under t.rows worlds.count t.entry (worlds.entries k) k i o (some, many) row h
   settle_under _ (of_ratio c i unfinished some inside enters decide rising) = rising.within
-  settle_under _ (of_pivot c p o unfinished some inside enters leaves h) = pivot_under t.rows worlds t.entry _ p o h
+  settle_under _ (of_pivot c p o unfinished some inside enters leaves h) = pivot_under t.rows worlds.count t.entry _ p o h
 
 -- a place that is due names the stage's rows and worlds
 pub due_under : (kind : ClaimKind) (s : Subject) (g : Stage) (left : ℕ) (X : ℕ → ℕ → Rational) (o : Operation) → DueAt (program_of kind s) g left X o
     → IsPlaceUnder (rows_of (setting_of s)) (length g.pool) o.place
-due_under kind s g left X _ (for_pivots o h) = settle_under _ _ (length g.pool) _ left _ o h
+due_under kind s g left X _ (for_pivots o h) = settle_under _ _ (worlds_at (program_of kind s).frame g) left _ o h
 due_under kind s g left X _ (for_dual o rests h) = multiplier_under (rows_of (setting_of s)) (length g.pool) _ g.basis X o h
 due_under kind s g left X _ (for_model o due h) = weight_under (rows_of (setting_of s)) (length g.pool) g.basis X o h
 

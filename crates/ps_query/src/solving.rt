@@ -199,7 +199,7 @@ fn answer_by(
     ensures read_back { IfOk result (IsReadBack limits) }
 {
     // Called for its clauses: the problem is within the limits, and its numbers are in range.
-    let _sound = problem.bound_list();
+    let _sound = problem.rows();
     let (verdict, first) = begin(run)?;
     let parts = parts_under(alloc, problem, limits, &verdict, run, &first)?;
     Ok(Answer {

@@ -3,11 +3,14 @@ use Rattle.std.proofs.Common.{◌≡◌, ℕ, ◌≤◌, Bool, true, false, ◌&
 use Rattle.std.proofs.lemmas.List.{take-append-drop, length-take-le}
 use Rattle.std.specs.Prelude.{◌==◌}
 use Rattle.ps_meaning.specs.Names.{is_digit}
-use Rattle.ps_text.specs.Tokens.{One, Token, Word, Number, Sign, Whole, Quotient, Decimal}
+use Rattle.ps_text.specs.Tokens.{Token, Word, Number, Sign, Whole, Quotient, Decimal}
 use Rattle.ps_text.specs.Pieces.{Piece, Blank, Comment, Spelled, EndsLine, Fits, texts, Cuts, IsBare}
 use Rattle.ps_text.specs.Fronts.{IsTextFront, IsFront}
 use Rattle.ps_meaning.specs.Statements.{Item}
 use Rattle.ps_text.proofs.Spans.{starts, starts_behind}
+use Rattle.ps_text.specs.declared.symbol.Symbol.{Symbol}
+use Rattle.ps_text.specs.declared.symbol.Symbol.TheVariants.{Open, Close, OpenBracket, CloseBracket, Comma, Semicolon, Bang, Ampersand, Bar, Arrow, DoubleArrow, Equals, GreaterEquals, LessEquals, Plus, Minus}
+use Rattle.ps_text.proofs.Symbols.{SymbolStops}
 use Rattle.ps_text.proofs.Longest.{Stops, longest_stops, stops_longest}
 use Rattle.ps_problem.specs.Problems.{Parts}
 use Rattle.ps_read.specs.Readings.{SpellsProblem}
@@ -27,27 +30,46 @@ behind_less c (b ∷ []) more s = never (b == c)
     never false = refl
 behind_less c (b ∷ d ∷ bs) more s = s
 
+symbol_less : (x : Symbol) (after more : List ℕ) → SymbolStops x (after ++ more) → SymbolStops x after
+symbol_less Minus [] more s = refl
+symbol_less Minus (b ∷ bs) more s = s
+symbol_less Open after more s = tt
+symbol_less Close after more s = tt
+symbol_less OpenBracket after more s = tt
+symbol_less CloseBracket after more s = tt
+symbol_less Comma after more s = tt
+symbol_less Semicolon after more s = tt
+symbol_less Bang after more s = tt
+symbol_less Ampersand after more s = tt
+symbol_less Bar after more s = tt
+symbol_less Arrow after more s = tt
+symbol_less DoubleArrow after more s = tt
+symbol_less Equals after more s = tt
+symbol_less GreaterEquals after more s = tt
+symbol_less LessEquals after more s = tt
+symbol_less Plus after more s = tt
+
 stops_less : (t : Token) (after more : List ℕ) → Stops t (after ++ more) → Stops t after
 stops_less (Word w) [] more s = refl
 stops_less (Word w) (b ∷ bs) more s = s
 stops_less (Number (Whole ds)) after more s = (digit_less after more s.0, behind_less 47 after more s.1, behind_less 46 after more s.2)
 stops_less (Number (Quotient ds es)) after more s = digit_less after more s
 stops_less (Number (Decimal ds es)) after more s = digit_less after more s
-stops_less (Sign x) after more s = tt
+stops_less (Sign x) after more s = symbol_less x after more s
 
 ends_less : (after more : List ℕ) → EndsLine (after ++ more) → EndsLine after
 ends_less [] more e = tt
 ends_less (b ∷ bs) more e = e
 
-fits_less : (p : Piece) (after more : List ℕ) → Fits One p (after ++ more) → Fits One p after
+fits_less : (p : Piece) (after more : List ℕ) → Fits p (after ++ more) → Fits p after
 fits_less (Blank b) after more f = f
 fits_less (Comment c) after more f = (f.0, ends_less after more f.1)
-fits_less (Spelled t) after more f = (f.0, stops_longest One t after f.0 (stops_less t after more (longest_stops One t (after ++ more) f.0 f.1)))
+fits_less (Spelled t) after more f = (f.0, stops_longest t after f.0 (stops_less t after more (longest_stops t (after ++ more) f.0 f.1)))
 
-cuts_less : (ps : List Piece) (after more : List ℕ) → Cuts One ps (after ++ more) → Cuts One ps after
+cuts_less : (ps : List Piece) (after more : List ℕ) → Cuts ps (after ++ more) → Cuts ps after
 cuts_less [] after more c = tt
 cuts_less (p ∷ ps) after more c =
-    (fits_less p (texts ps ++ after) more (subst (λ (x : List ℕ). Fits One p x) (sym (append_assoc (texts ps) after more)) c.0), cuts_less ps after more c.1)
+    (fits_less p (texts ps ++ after) more (subst (λ (x : List ℕ). Fits p x) (sym (append_assoc (texts ps) after more)) c.0), cuts_less ps after more c.1)
 
 bare_less : (after more : List ℕ) → IsBare (after ++ more) → IsBare after
 bare_less [] more b = tt
@@ -82,7 +104,7 @@ front_alone bytes more n f l =
       rest = s.between;
       written = f.written;
       is = s.bytes_are;
-      cuts = cuts_less f.pieces s.between more (subst (λ r. Cuts One f.pieces r) s.rest_is f.cuts);
+      cuts = cuts_less f.pieces s.between more (subst (λ r. Cuts f.pieces r) s.rest_is f.cuts);
       derived = f.derived;
       within = f.within;
       bare = bare_less s.between more (subst IsBare s.rest_is f.bare);

@@ -6,7 +6,7 @@ use Rattle.std.specs.List.{list_any}
 use Rattle.ps_meaning.specs.Statements.{Name, Item}
 use Rattle.ps_text.specs.Tokens.{Token, Word, Number, Sign}
 use Rattle.ps_text.specs.declared.symbol.Symbol.{Symbol}
-use Rattle.ps_text.specs.declared.symbol.Symbol.TheVariants.{Open, Close, OpenBracket, CloseBracket, Comma, Semicolon, Bang, Ampersand, Bar, Arrow, DoubleArrow, Equals, GreaterEquals, LessEquals}
+use Rattle.ps_text.specs.declared.symbol.Symbol.TheVariants.{Open, Close, OpenBracket, CloseBracket, Comma, Semicolon, Bang, Ampersand, Bar, Arrow, DoubleArrow, Equals, GreaterEquals, LessEquals, Plus, Minus}
 use Rattle.ps_text.specs.declared.part.Part.{Part}
 use Rattle.ps_text.specs.declared.part.Part.TheVariants as part
 use Rattle.ps_problem.specs.declared.limits.TheConstants.{MOST_DRAFTED}
@@ -15,7 +15,7 @@ use Rattle.ps_problem.specs.Numbering.{same_name}
 use Rattle.ps_problem.specs.Drafts.{Drafted, with_mark, with_formula, with_item}
 use Rattle.ps_read.specs.declared.operator.Operator.{Operator}
 use Rattle.ps_read.specs.Pending.{Pending, binding, mark_of, reduced, reduced_from, IsEndable}
-use Rattle.ps_read.specs.Machine.{at_first, ItemSoFar, Work, Machine, with_pending, with_atom, with_word, operand_taken, given_taken, probability_ended, closed_behind, operator_taken, taken_at, next}
+use Rattle.ps_read.specs.Machine.{at_first, ItemSoFar, Work, Machine, with_pending, with_atom, with_word, operand_taken, given_taken, probability_ended, closed_behind, operator_taken, relation_taken, taken_at, next}
 use Rattle.ps_read.specs.Taking.{CountsAtMost}
 use Rattle.ps_read.specs.Ready.{HasRoom, IsWhole, MayEnd, MayBeTaken}
 
@@ -75,6 +75,8 @@ few_operand n p (Sign s) h = few_sign s
     few_sign Equals = few_more n p.draft h
     few_sign GreaterEquals = few_more n p.draft h
     few_sign LessEquals = few_more n p.draft h
+    few_sign Plus = few_more n p.draft h
+    few_sign Minus = few_more n p.draft h
 
 few_formula : (n : ℕ) (d : Drafted) → IsEndable d → IsFew n d → IsFew (n + 1) (with_formula d)
 few_formula n d e h =
@@ -115,26 +117,63 @@ few_operator n w t m h = at_operator t m
     at_operator (Sign Equals) m = given m
     at_operator (Sign GreaterEquals) m = given m
     at_operator (Sign LessEquals) m = given m
+    at_operator (Sign Plus) m = given m
+    at_operator (Sign Minus) m = given m
 
 few_item : (n : ℕ) (d : Drafted) (i : Item) → IsFew n d → IsFew (n + 1) (with_item d i)
 few_item n d i h = record { names = omega (arith, h.names); formulas = omega (arith, h.formulas); items = one_behind d.items i n h.items }
+
+few_relation : (n : ℕ) (w : Work) (t : Token) → IsFew n w.pending.draft → IsFew (n + 1) (relation_taken w t).pending.draft
+few_relation n w (Word u) h = few_more n w.pending.draft h
+few_relation n w (Number x) h = few_more n w.pending.draft h
+few_relation n w (Sign s) h = by s
+  where
+    by : (s : Symbol) → IsFew (n + 1) (relation_taken w (Sign s)).pending.draft
+    by Open = few_more n w.pending.draft h
+    by Close = few_more n w.pending.draft h
+    by OpenBracket = few_more n w.pending.draft h
+    by CloseBracket = few_more n w.pending.draft h
+    by Comma = few_more n w.pending.draft h
+    by Semicolon = few_more n w.pending.draft h
+    by Bang = few_more n w.pending.draft h
+    by Ampersand = few_more n w.pending.draft h
+    by Bar = few_more n w.pending.draft h
+    by Arrow = few_more n w.pending.draft h
+    by DoubleArrow = few_more n w.pending.draft h
+    by Equals = few_more n w.pending.draft h
+    by GreaterEquals = few_more n w.pending.draft h
+    by LessEquals = few_more n w.pending.draft h
+    by Plus = few_more n w.pending.draft h
+    by Minus = few_more n w.pending.draft h
 
 few : (n : ℕ) (p : Part) (w : Work) (t : Token) → MayBeTaken p w t → IsFew n w.pending.draft → IsFew (n + 1) (taken_at p w t).pending.draft
 few n part.Psat w t r h = few_more n w.pending.draft h
 few n part.Version w t r h = few_more n w.pending.draft h
 few n part.HeadEnd w t r h = few_more n w.pending.draft h
-few n part.Item w t r h = few_more n w.pending.draft h
+few n part.Item w (Word u) r h = few_more n w.pending.draft h
+few n part.Item w (Number x) r h = few_more n w.pending.draft h
+few n part.Item w (Sign s) r h = few_more n w.pending.draft h
+few n part.Term w (Word u) r h = few_more n w.pending.draft h
+few n part.Term w (Number x) r h = few_more n w.pending.draft h
+few n part.Term w (Sign s) r h = few_more n w.pending.draft h
+few n part.TermProb w t r h = few_more n w.pending.draft h
 few n part.QueryProb w t r h = few_more n w.pending.draft h
 few n part.Paren w t r h = few_more n w.pending.draft h
 few n part.Operand w t r h = few_operand n w.pending t h
 few n part.Operator w t r h = few_operator n w t r.1 h
-few n part.Relation w t r h = few_more n w.pending.draft h
-few n part.Number w t r h = few_item n w.pending.draft _ h
+few n part.Relation w t r h = few_relation n w t h
+few n part.Number w (Word u) r h = few_more n w.pending.draft h
+few n part.Number w (Sign s) r h = few_more n w.pending.draft h
+few n part.Number w (Number x) r h = few_item n w.pending.draft _ h
 few n part.ItemEnd w t r h = few_more n w.pending.draft h
 few n part.Bracket w t r h = few_more n w.pending.draft h
-few n part.First w t r h = few_more n w.pending.draft h
+few n part.First w (Word u) r h = few_more n w.pending.draft h
+few n part.First w (Sign s) r h = few_more n w.pending.draft h
+few n part.First w (Number x) r h = few_more n w.pending.draft h
 few n part.Comma w t r h = few_more n w.pending.draft h
-few n part.Second w t r h = few_item n w.pending.draft _ h
+few n part.Second w (Word u) r h = few_more n w.pending.draft h
+few n part.Second w (Sign s) r h = few_more n w.pending.draft h
+few n part.Second w (Number x) r h = few_item n w.pending.draft _ h
 few n part.BracketEnd w t r h = few_more n w.pending.draft h
 few n part.TextEnd w t r h = few_more n w.pending.draft h
 few n part.Done w t r h = few_more n w.pending.draft h

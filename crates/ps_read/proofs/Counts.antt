@@ -11,12 +11,12 @@ use Rattle.ps_text.specs.Positions as text
 use Rattle.ps_text.proofs.Laying.{texts-append}
 use Rattle.ps_lex.specs.declared.position.Position.{Position}
 use Rattle.ps_lex.specs.Places.{line_and_column}
-use Rattle.ps_problem.specs.declared.limits.TheConstants.{MOST_BOUNDS, MOST_QUERIES}
-use Rattle.ps_problem.specs.Numbering.{numbered_for}
+use Rattle.ps_problem.specs.declared.limits.TheConstants.{MOST_QUERIES}
+use Rattle.ps_problem.specs.Numbering.{numbered_for, numbered_in}
 use Rattle.ps_problem.specs.Problems.{Parts}
 use Rattle.ps_problem.specs.declared.excess.Excess.{Excess}
-use Rattle.ps_problem.specs.declared.excess.Excess.TheVariants.{Bounds, Queries}
-use Rattle.ps_problem.specs.Counts.{ItemExcess, count_bounds, with_formulas, at_item, with_statements, with_questions, after, counted}
+use Rattle.ps_problem.specs.declared.excess.Excess.TheVariants.{Queries}
+use Rattle.ps_problem.specs.Counts.{ItemExcess, count_bounds, statement_excess, unless, with_formulas, at_item, with_statements, with_questions, after, counted}
 use Rattle.ps_read.specs.Kept.{drafted_in}
 use Rattle.ps_text.specs.declared.kind.ReadKind.{ReadKind}
 use Rattle.ps_read.specs.Readings.{IsProblemOf, SpellsProblem, IsUnread}
@@ -41,7 +41,7 @@ statements_among : (before bounds : ℕ) (fs : List (Formula Name)) (items : Lis
 statements_among before bounds fs [] r h = absurd cc
 statements_among before bounds fs (Asked q ∷ items) r h = further_on before (Asked q) items r (statements_among (before + 1) bounds fs items r h)
 statements_among before bounds fs (Stated s ∷ items) r h =
-    at_this before (Stated s) items (if nat_lt MOST_BOUNDS (bounds + count_bounds s) then Err Bounds else with_formulas fs (numbered_for s.formula s.given))
+    at_this before (Stated s) items (unless (statement_excess bounds s) (with_formulas fs (numbered_in s)))
     (λ gs. with_statements (before + 1) (bounds + count_bounds s) gs items) r h
     (λ gs k. further_on before (Stated s) items r (statements_among (before + 1) (bounds + count_bounds s) gs items r k))
 
@@ -93,11 +93,11 @@ spelled bytes place x p t m = record { items = (drafted_in x.machine).items; fro
 pub refused : (bytes : List ℕ) (place : Position) (x : Parsed) (kind : ReadKind) (position : text.Position) → IsParsedText bytes place x → IsExcessIn x kind position → IsUnread bytes kind position
 refused bytes place x kind position t e =
     let items = (drafted_in x.machine).items in
-    let many : length items ≡ length t.front.written = items_many t.front.written items t.items in
+    let many : length items ≡ length t.front.written.items = items_many t.front.written.items items t.items in
     let least : 1 ≤ e.first.item = refused_least items e.first e.counts in
     let most : e.first.item ≤ length items = refused_most items e.first e.counts in
     let i = e.first.item - 1 in
-    let s = split t.front.written (e.first.item - 1) (omega (arith, least, most, many)) in
+    let s = split t.front.written.items (e.first.item - 1) (omega (arith, least, most, many)) in
     let b = t.begun.each (e.first.item - 1) (omega (arith, least, most, many, t.begun.many)) in
     let there : bytes ≡ texts b.before ++ (texts (Spelled b.first ∷ b.behind) ++ t.front.rest) =
     t.front.is ∙ ap (λ ps. texts ps ++ t.front.rest) b.pieces_are ∙ ap (λ bs. bs ++ t.front.rest) (texts-append b.before (Spelled b.first ∷ b.behind))
@@ -110,11 +110,11 @@ refused bytes place x kind position t e =
       counts = e.counts;
       place = length (texts b.before);
       begins = record {
-        earlier = take (e.first.item - 1) t.front.written;
+        earlier = take (e.first.item - 1) t.front.written.items;
         item = s.item;
         later = s.later;
         written_are = s.is;
-        number_is = let l = length-take-le (e.first.item - 1) t.front.written (omega (arith, least, most, many)) in omega (arith, l, least);
+        number_is = let l = length-take-le (e.first.item - 1) t.front.written.items (omega (arith, least, most, many)) in omega (arith, l, least);
         before = b.before;
         first = b.first;
         behind = b.behind;

@@ -4,10 +4,11 @@ use Rattle.std.specs.Prelude.{if◌then◌else◌, Ok}
 use Rattle.ps_text.specs.declared.part.Part.{Part}
 use Rattle.ps_text.specs.declared.part.Part.TheVariants as part
 use Rattle.ps_text.specs.declared.kind.ReadKind.{ReadKind}
-use Rattle.ps_text.specs.declared.kind.ReadKind.TheVariants.{BadByte, EndMissing, Expected}
+use Rattle.ps_text.specs.declared.kind.ReadKind.TheVariants.{BadByte, EndMissing}
+use Rattle.ps_text.specs.declared.symbol.Symbol.TheVariants as symbol
+use Rattle.ps_text.proofs.Steps.{passed}
 use Rattle.ps_text.specs.Tokens as text
 use Rattle.ps_text.specs.ExpectedTokens.{State, row, refusal, after}
-use Rattle.ps_text.specs.declared.kind.What.{What}
 use Rattle.ps_lex.specs.declared.position.Position.{Position}
 use Rattle.ps_lex.specs.declared.mode.Mode.{Mode}
 use Rattle.ps_lex.specs.declared.mode.Mode.TheVariants as mode
@@ -27,6 +28,8 @@ number_goes_on part.Version d n h e = refl
 number_goes_on part.HeadEnd d n h e = refl
 number_goes_on part.Item d n h e = refl
 number_goes_on part.QueryProb d n h e = refl
+number_goes_on part.Term d n h e = refl
+number_goes_on part.TermProb d n h e = refl
 number_goes_on part.Paren d n h e = refl
 number_goes_on part.Operand d n h e = refl
 number_goes_on part.Operator d n h e = refl
@@ -41,17 +44,9 @@ number_goes_on part.ItemEnd d n h e = refl
 number_goes_on part.TextEnd d n h e = absurd (true≢false (sym e))
 number_goes_on part.Done d n h e = absurd (true≢false h)
 
-expected_of : (b : Bool) (w : What) (o : Option ReadKind) → (if not b then Some (Expected w) else o) ≡ None → b ≡ true
-expected_of true w o e = refl
-expected_of false w o e = absurd cc
-
-number_expected : (d : State) (n : text.Numeral) → refusal d (text.Number n) ≡ None → (row d.part).expects d (text.Number n) ≡ true
-unfolding refusal
-number_expected d n r = expected_of ((row d.part).expects d (text.Number n)) (row d.part).what ((row d.part).fault d (text.Number n)) r
-
 no_number_ends : (d : State) (n : text.Numeral) → is_done d.part ≡ false → refusal d (text.Number n) ≡ None → is_done (after d (text.Number n)).part ≡ false
 unfolding after
-no_number_ends d n h r = number_goes_on d.part d n h (number_expected d n r)
+no_number_ends d n h r = number_goes_on d.part d n h (passed d (text.Number n) r).expected
 
 -- where the text ends, if it does
 
@@ -113,7 +108,7 @@ module _ (s : LexerState) (x y : Parsed) (p : Position) where
   by_mode (mode.Sign c) b w e = token_ends (token.Sign c) (within_goes_on (is_done (part_of x)) s.began w) e
   by_mode (mode.Slash d q) b w e = absurd (number_stops (numeral.Whole d) q (within_goes_on (is_done (part_of x)) s.began w) e)
   by_mode (mode.Point d q) b w e = absurd (number_stops (numeral.Whole d) q (within_goes_on (is_done (part_of x)) s.began w) e)
-  by_mode mode.Minus b w e = absurd (not_ended x y BadByte s.began p (within_goes_on (is_done (part_of x)) s.began w) e)
+  by_mode mode.Minus b w e = token_ends (token.Sign symbol.Minus) (within_goes_on (is_done (part_of x)) s.began w) e
   by_mode mode.Less b w e = absurd (not_ended x y BadByte s.began p (within_goes_on (is_done (part_of x)) s.began w) e)
   by_mode mode.LessMinus b w e = absurd (not_ended x y BadByte s.began p (within_goes_on (is_done (part_of x)) s.began w) e)
   by_mode mode.Greater b w e = absurd (not_ended x y BadByte s.began p (within_goes_on (is_done (part_of x)) s.began w) e)

@@ -6,7 +6,7 @@ use Rattle.ps_meaning.specs.Formula.{Formula}
 use Rattle.ps_meaning.specs.Statements.{Name}
 use Rattle.ps_text.specs.Tokens.{Token}
 use Rattle.ps_text.specs.Pieces.{Piece, Blank, Comment, Spelled, texts, tokens}
-use Rattle.ps_text.specs.Grammar.{ItemSyntax, tokens_up_to, text_tokens}
+use Rattle.ps_text.specs.Grammar.{TextSyntax, tokens_up_to, text_tokens}
 use Rattle.ps_text.specs.Fronts.{IsTextFront}
 use Rattle.ps_text.specs.Positions.{Position, position_of}
 use Rattle.ps_text.proofs.Once.{Order, Same, Longer, Shorter, order, front_once, front_place}
@@ -75,11 +75,11 @@ split_once (x ∷ ps) (y ∷ qs) us vs t u e h =
     λ i. d i ∷ r i
 
 -- an item begins at one place
-begins_once : (pieces : List Piece) (written : List ItemSyntax) (number n m : ℕ) → BeginsItem pieces written number n → BeginsItem pieces written number m → n ≡ m
+begins_once : (pieces : List Piece) (written : TextSyntax) (number n m : ℕ) → BeginsItem pieces written number n → BeginsItem pieces written number m → n ≡ m
 begins_once pieces written number n m f g =
     let earlier : f.earlier ≡ g.earlier =
     same_front f.earlier g.earlier (f.item ∷ f.later) (g.item ∷ g.later) (omega (arith, f.number_is, g.number_is)) (sym f.written_are ∙ g.written_are) in
-    let alike : tokens f.before ≡ tokens g.before = f.tokens_are ∙ ap tokens_up_to earlier ∙ sym g.tokens_are in
+    let alike : tokens f.before ≡ tokens g.before = f.tokens_are ∙ ap (λ is. tokens_up_to (record { version = written.version; items = is })) earlier ∙ sym g.tokens_are in
     let before = split_once f.before g.before f.behind g.behind f.first g.first (sym f.pieces_are ∙ g.pieces_are) alike in
     f.place_is ∙ ap (λ ps. length (texts ps)) before ∙ sym g.place_is
 

@@ -52,7 +52,7 @@ parsed_text bytes parser place e = subst (IsSo bytes) e (answer_so bytes)
 pub are_whole : (bytes : List ℕ) (parser : Parser) (place : Position) → answer new_lexer nothing_parsed bytes ≡ Ok (place, parsed_by parser) → AreWhole (parsed_by parser)
 are_whole bytes parser place e =
     let t = parsed_text bytes parser place e in
-    t.begun.many ∙ sym (items_many t.front.written (drafted_in (parsed_by parser).machine).items t.items)
+    t.begun.many ∙ sym (items_many t.front.written.items (drafted_in (parsed_by parser).machine).items t.items)
 
 -- the form is refused
 pub form_told : (bytes : List ℕ) (e : ReadError) → Answers (answer new_lexer nothing_parsed bytes) (Err e) → Tells (IsUnread bytes) e

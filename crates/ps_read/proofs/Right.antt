@@ -2,19 +2,19 @@
 use Rattle.std.proofs.Common.{◌≡◌, ℕ, Bool, true, false, ◌⊎◌, inl, inr, List, [], ◌∷◌, ◌++◌, length, take, Option, Some, None, refl, sym, ap, subst, ◌∙◌, arith, append_assoc, append-nil, true≢false}
 use Rattle.std.proofs.lemmas.List.{take-append-le, take_all}
 use Rattle.std.specs.Prelude.{if◌then◌else◌, Ok, Err}
-use Rattle.ps_text.specs.Tokens.{One, Token, IsToken, IsLongest, spelling}
+use Rattle.ps_text.specs.Tokens.{Token, IsToken, IsLongest, spelling}
 use Rattle.ps_text.specs.Pieces.{Piece, Blank, Comment, Spelled, text, texts, Cuts, Fits, tokens, IsBare, IsBad, Cut}
 use Rattle.ps_text.specs.declared.kind.ReadKind.{ReadKind}
 use Rattle.ps_text.specs.declared.kind.ReadKind.TheVariants.{BadByte, EndMissing}
 use Rattle.ps_text.specs.Positions as text
 use Rattle.ps_text.specs.ExpectedTokens.{State, at_start, refusal, after, Passes}
 use Rattle.ps_text.specs.Refusals.{Why}
-use Rattle.ps_text.specs.Grammar.{ItemSyntax, text_tokens, AreWellFormedItems}
+use Rattle.ps_text.specs.Grammar.{TextSyntax, text_tokens, IsWellFormedText}
 use Rattle.ps_text.specs.Meanings.{AreItems}
 use Rattle.ps_text.specs.Fronts.{IsTextFront}
 use Rattle.ps_text.proofs.Once.{bare_token, some_bytes}
 use Rattle.ps_text.proofs.Cutting.{cut}
-use Rattle.ps_text.specs.PartialParses.{Parse, InPsat, InVersion, InHeadEnd, InItem, InQueryProb, InTextEnd, InDone, InParen, InOperand, InOperator, InRelation, InBracket, InFirst, InNumber, InComma, InSecond, InBracketEnd, InItemEnd, state_of, parsed_tokens, parsed}
+use Rattle.ps_text.specs.PartialParses.{Parse, InPsat, InVersion, InHeadEnd, InItem, InQueryProb, InTextEnd, InDone, InTerm, InTermProb, InParen, InOperand, InOperator, InRelation, InBracket, InFirst, InNumber, InComma, InSecond, InBracketEnd, InItemEnd, state_of, parsed_tokens, parsed}
 use Rattle.ps_text.proofs.Derived.{steps}
 use Rattle.ps_text.proofs.Deriving.{passes-append}
 use Rattle.ps_lex.specs.declared.position.Position.{Position}
@@ -42,8 +42,8 @@ use Rattle.ps_read.proofs.Steps.{first_stands}
 pub record IsParsedText (bytes : List ℕ) (place : Position) (x : Parsed) : Type 0 where
   pub front : IsTextFront bytes place.offset
   pub position_is : line_and_column place ≡ text.position_of bytes place.offset
-  pub items : AreItems front.written (drafted_in x.machine).items
-  pub begun : AreBegun front.pieces front.written (length front.written) x.places
+  pub items : AreItems front.written.items (drafted_in x.machine).items
+  pub begun : AreBegun front.pieces front.written.version front.written.items (length front.written.items) x.places
 
 -- what the answer says is so
 abbrev pub IsSo : List ℕ → Answer → Type 0
@@ -60,7 +60,7 @@ record Stands (done : List Piece) (x : Parsed) : Type 0 where
 -- the pieces so far, and what was parsed of them
 record Reached (bytes : List ℕ) (done : List Piece) (rest : List ℕ) (x : Parsed) : Type 0 where
   is : bytes ≡ texts done ++ rest
-  cuts : Cuts One done rest
+  cuts : Cuts done rest
   passes : Passes at_start (tokens done) x.machine.state
   stands : Stands done x
 
@@ -78,11 +78,11 @@ refuse bytes done rest x k r u b w = record {
 
 -- a text that is whole
 record Whole (done : List Piece) (x : Parsed) : Type 0 where
-  written : List ItemSyntax
+  written : TextSyntax
   tokens_are : tokens done ≡ text_tokens written
-  within : AreWellFormedItems written
-  items : AreItems written (drafted_in x.machine).items
-  begun : AreBegun done written (length written) x.places
+  within : IsWellFormedText written
+  items : AreItems written.items (drafted_in x.machine).items
+  begun : AreBegun done written.version written.items (length written.items) x.places
 
 done_parse : (done : List Piece) (x : Parsed) (p : Parse) → is_done (state_of p).part ≡ true → parsed_tokens p ≡ tokens done → Represents p x.machine → HaveBegun done p x.places → Whole done x
 done_parse done x (InDone es) h e s b = record {
@@ -90,23 +90,25 @@ done_parse done x (InDone es) h e s b = record {
   tokens_are = sym e;
   within = s.sound;
   items = s.work.items;
-  begun = subst (λ n. AreBegun done es n x.places) (omega arith) b;
+  begun = subst (λ n. AreBegun done es.version es.items n x.places) (omega arith) b;
 }
 done_parse done x InPsat h e s b = absurd (true≢false (sym h))
 done_parse done x InVersion h e s b = absurd (true≢false (sym h))
-done_parse done x InHeadEnd h e s b = absurd (true≢false (sym h))
+done_parse done x (InHeadEnd v) h e s b = absurd (true≢false (sym h))
 done_parse done x (InItem es) h e s b = absurd (true≢false (sym h))
 done_parse done x (InQueryProb es) h e s b = absurd (true≢false (sym h))
 done_parse done x (InTextEnd es) h e s b = absurd (true≢false (sym h))
+done_parse done x (InTerm es ts m) h e s b = absurd (true≢false (sym h))
+done_parse done x (InTermProb es ts m y) h e s b = absurd (true≢false (sym h))
 done_parse done x (InParen es q) h e s b = absurd (true≢false (sym h))
 done_parse done x (InOperand es q c fs) h e s b = absurd (true≢false (sym h))
 done_parse done x (InOperator es q c fs f) h e s b = absurd (true≢false (sym h))
 done_parse done x (InRelation es p) h e s b = absurd (true≢false (sym h))
 done_parse done x (InBracket es p) h e s b = absurd (true≢false (sym h))
-done_parse done x (InFirst es p) h e s b = absurd (true≢false (sym h))
-done_parse done x (InNumber es p y) h e s b = absurd (true≢false (sym h))
+done_parse done x (InFirst es p m) h e s b = absurd (true≢false (sym h))
+done_parse done x (InNumber es p y m) h e s b = absurd (true≢false (sym h))
 done_parse done x (InComma es p y) h e s b = absurd (true≢false (sym h))
-done_parse done x (InSecond es p y) h e s b = absurd (true≢false (sym h))
+done_parse done x (InSecond es p y m) h e s b = absurd (true≢false (sym h))
 done_parse done x (InBracketEnd es p y z) h e s b = absurd (true≢false (sym h))
 done_parse done x (InItemEnd es y) h e s b = absurd (true≢false (sym h))
 
@@ -126,10 +128,10 @@ texts_more : (done : List Piece) (x : Piece) → texts (done ++ x ∷ []) ≡ te
 texts_more [] x = append-nil (text x)
 texts_more (y ∷ done) x = ap (λ bs. text y ++ bs) (texts_more done x) ∙ sym (append_assoc (text y) (texts done) (text x))
 
-cuts_more : (done : List Piece) (x : Piece) (rest : List ℕ) → Cuts One done (text x ++ rest) → Fits One x rest → Cuts One (done ++ x ∷ []) rest
+cuts_more : (done : List Piece) (x : Piece) (rest : List ℕ) → Cuts done (text x ++ rest) → Fits x rest → Cuts (done ++ x ∷ []) rest
 cuts_more [] x rest c f = (f, tt)
 cuts_more (y ∷ done) x rest c f =
-    (subst (λ bs. Fits One y bs) (sym (append_assoc (texts done) (text x) rest) ∙ ap (λ bs. bs ++ rest) (sym (texts_more done x))) c.0, cuts_more done x rest c.1 f)
+    (subst (λ bs. Fits y bs) (sym (append_assoc (texts done) (text x) rest) ∙ ap (λ bs. bs ++ rest) (sym (texts_more done x))) c.0, cuts_more done x rest c.1 f)
 
 tokens_more : (done : List Piece) (x : Piece) → tokens (done ++ x ∷ []) ≡ tokens done ++ tokens (x ∷ [])
 tokens_more [] x = refl
@@ -138,7 +140,7 @@ tokens_more (Comment c ∷ done) x = tokens_more done x
 tokens_more (Spelled t ∷ done) x = ap (λ ts. t ∷ ts) (tokens_more done x)
 
 -- one piece further
-further : (bytes : List ℕ) (done : List Piece) (p : Piece) (rest : List ℕ) (x y : Parsed) → Reached bytes done (text p ++ rest) x → Fits One p rest → Passes x.machine.state (tokens (p ∷ [])) y.machine.state
+further : (bytes : List ℕ) (done : List Piece) (p : Piece) (rest : List ℕ) (x y : Parsed) → Reached bytes done (text p ++ rest) x → Fits p rest → Passes x.machine.state (tokens (p ∷ [])) y.machine.state
     → Stands (done ++ p ∷ []) y → Reached bytes (done ++ p ∷ []) rest y
 further bytes done p rest x y r f h s = record {
   is = r.is ∙ sym (append_assoc (texts done) (text p) rest) ∙ ap (λ bs. bs ++ rest) (sym (texts_more done p));
@@ -191,7 +193,7 @@ at_bad bytes done (c ∷ cs) x r s b = by (is_done (part_of x)) refl
     by true h = found bytes done (c ∷ cs) x r h b.bare
     by false h = refuse bytes done (c ∷ cs) x BadByte r h b.bare (inl (b.none, refl))
 
-why_token : (t : Token) (after : List ℕ) (d : State) (k : ReadKind) → IsToken One t → IsLongest One t after → refusal d t ≡ Some k → Why d (spelling t ++ after) k
+why_token : (t : Token) (after : List ℕ) (d : State) (k : ReadKind) → IsToken t → IsLongest t after → refusal d t ≡ Some k → Why d (spelling t ++ after) k
 why_token t after d k i l h = by (spelling t ++ after) refl (bare_token t after i)
   where
     by : (bytes : List ℕ) → bytes ≡ spelling t ++ after → IsBare (spelling t ++ after) → Why d bytes k
@@ -212,7 +214,7 @@ regroup : (bytes : List ℕ) (done : List Piece) (p : Piece) (ps : List Piece) (
 regroup bytes done p ps rest x r = subst (λ bs. Reached bytes done bs x) (append_assoc (text p) (texts ps) rest) r
 
 right : (bytes : List ℕ) (ps done : List Piece) (rest : List ℕ) (x : Parsed) (p last : Position) (bad : Option Position) (end : Position)
-    → p ≡ behind_all start (texts done) → behind_all p (texts ps) ≡ last → Cuts One ps rest → Reached bytes done (texts ps ++ rest) x → Ends rest last bad end
+    → p ≡ behind_all start (texts done) → behind_all p (texts ps) ≡ last → Cuts ps rest → Reached bytes done (texts ps ++ rest) x → Ends rest last bad end
     → IsSo bytes (judged x (told p ps) bad end)
 unfolding Ends
 right bytes [] done rest x p last bad end pe le c r (inl e) =
@@ -268,7 +270,7 @@ answer_so bytes = by (cut bytes)
     by c = elim (ends_of c.rest c.ends) [
       | inl e ↦
           let whole : bytes ≡ texts c.pieces = c.is ∙ ap (λ r. texts c.pieces ++ r) e ∙ append-nil (texts c.pieces) in
-          let cuts : Cuts One c.pieces [] = subst (λ r. Cuts One c.pieces r) e c.cuts in
+          let cuts : Cuts c.pieces [] = subst (λ r. Cuts c.pieces r) e c.cuts in
           let s : lexed new_lexer bytes ≡ (told start c.pieces, None) = ap (lexed new_lexer) whole ∙ whole_told c.pieces cuts in
           subst (λ x. IsSo bytes (judged nothing_parsed x.0 x.1 (behind_all start bytes))) (sym s)
           (right bytes c.pieces [] c.rest nothing_parsed start (behind_all start (texts c.pieces)) None (behind_all start bytes) refl refl c.cuts

@@ -2,21 +2,17 @@
 use Rattle.std.proofs.Common.{◌≡◌, ℕ, zero, suc, ◌+◌, ◌^◌, ◌<◌, ◌≤◌, [], ◌∷◌, ◌++◌, length, replicate, refl, sym, ap, subst, ◌∙◌, arith}
 use Rattle.std.proofs.Math.Nat.{pow-le-pow_right}
 use Rattle.std.proofs.lemmas.List.{length-append, length-replicate}
-use Rattle.ps_meaning.specs.Statements.{Ratio}
 use Rattle.ps_text.specs.Tokens as text
-use Rattle.ps_text.specs.Tokens.{Whole, Quotient}
-use Rattle.ps_text.specs.Grammar.{value, IsProbability}
+use Rattle.ps_text.specs.Tokens.{Whole, Quotient, Decimal}
+use Rattle.ps_text.specs.Grammar.{value, IsWeight}
 use Rattle.ps_text.specs.Meanings.{ratio_of}
-use Rattle.ps_text.specs.Canonical.{IsReduced}
-use Rattle.ps_text.proofs.Lawful.{reduced}
-use Rattle.ps_text.specs.PartialParses.{number_in}
+use Rattle.ps_text.proofs.Lawful.{tens_few}
 use Rattle.ps_lex.specs.declared.token.Numeral as kept
 use Rattle.ps_lex.specs.declared.token.Token.{Token}
 use Rattle.ps_lex.specs.declared.token.Token.TheVariants as token
 use Rattle.ps_lex.specs.KeptTokens.{figures, decimal_of, token_of}
 use Rattle.ps_lex.proofs.Figures.{value-figures}
 use Rattle.ps_read.specs.Machine.{lowest, value_in}
-use Rattle.ps_read.proofs.Next.{value_is}
 use Rattle.ps_read.proofs.KeptTokens.{decimal_ratio}
 
 -- the values of numbers as they are kept
@@ -32,15 +28,33 @@ quotient_value c v d w =
 pub decimal_value : (k v : ℕ) → lowest (ratio_of (decimal_of k v)) ≡ lowest (record { num = v; den = 10 ^ k })
 decimal_value k v = ap lowest (decimal_ratio k v)
 
-pub quotient_some : (c v d w : ℕ) → IsProbability (Quotient (figures c v) (figures d w)) → 0 < w
+pub quotient_some : (c v d w : ℕ) → IsWeight (Quotient (figures c v) (figures d w)) → 0 < w
 quotient_some c v d w h = subst (λ n. 0 < n) (value-figures d w) h.0
 
-pub decimals_few : (k v : ℕ) → IsProbability (decimal_of k v) → k ≤ 6
+pub under_small : (c v d w : ℕ) → IsWeight (Quotient (figures c v) (figures d w)) → w ≤ 1000000
+under_small c v d w h = subst (λ n. n ≤ 1000000) (value-figures d w) h.1
+
+pub decimals_few : (k v : ℕ) → IsWeight (decimal_of k v) → k ≤ 6
 unfolding decimal_of
 decimals_few zero v h = omega arith
 decimals_few (suc k) v h =
     let many : length (replicate k 48 ++ (48 + v) ∷ []) ≡ suc k = length-append (replicate k 48) ((48 + v) ∷ []) ∙ ap (λ n. n + 1) (length-replicate k 48) ∙ omega arith in
     omega (arith, many, h.0)
+
+-- the numerator of a number that isn't too great
+weight_small : (x : text.Numeral) → IsWeight x → (ratio_of x).num ≤ 1000000000000
+weight_small (Whole ds) h = omega (arith, h)
+weight_small (Quotient ds es) h = (let a = h.1 in let b = h.2 in omega (arith, a, b))
+weight_small (Decimal ds es) h = (let a = tens_few (length es) h.0 in let b = h.1 in omega (arith, a, b))
+
+pub whole_small : (c v : ℕ) → IsWeight (Whole (figures c v)) → v ≤ 1000000000000
+whole_small c v h = subst (λ n. n ≤ 1000000000000) (value-figures c v) (weight_small (Whole (figures c v)) h)
+
+pub quotient_small : (c v d w : ℕ) → IsWeight (Quotient (figures c v) (figures d w)) → v ≤ 1000000000000
+quotient_small c v d w h = subst (λ n. n ≤ 1000000000000) (value-figures c v) (weight_small (Quotient (figures c v) (figures d w)) h)
+
+pub decimal_small : (k v : ℕ) → IsWeight (decimal_of k v) → v ≤ 1000000000000
+decimal_small k v h = subst (λ r. r.num ≤ 1000000000000) (decimal_ratio k v) (weight_small (decimal_of k v) h)
 
 pub tens_some : (k : ℕ) → 1 ≤ 10 ^ k
 tens_some k = pow-le-pow_right {n = 10} (omega arith) {i = 0} {j = k} (omega arith)
@@ -50,7 +64,3 @@ pub other_value : (t : Token) → ((n : kept.Numeral) → t ≡ token.Number n �
 other_value (token.Word w) h = refl
 other_value (token.Sign s) h = refl
 other_value (token.Number n) h = absurd (h n refl)
-
--- the value of a number that is a probability is one in lowest terms
-pub value_reduced : (t : text.Token) (r : Ratio) → IsProbability (number_in t) → r ≡ value_in t → IsReduced r
-value_reduced t r h e = subst (λ q. IsReduced q) (sym e) (reduced (number_in t) (value_in t) h (value_is (number_in t)))

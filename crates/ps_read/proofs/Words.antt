@@ -27,7 +27,8 @@ symbol_is here b =
     (choose (b == 44) (mode.Sign symbol.Comma) _ tt (choose (b == 59) (mode.Sign symbol.Semicolon) _ tt
     (choose (b == 33) (mode.Sign symbol.Bang) _ tt (choose (b == 38) (mode.Sign symbol.Ampersand) _ tt
     (choose (b == 124) (mode.Sign symbol.Bar) _ tt (choose (b == 61) (mode.Sign symbol.Equals) _ tt
-    (choose (b == 45) mode.Minus _ tt (choose (b == 60) mode.Less _ tt (choose (b == 62) mode.Greater (mode.Bad here) tt tt))))))))))))
+    (choose (b == 43) (mode.Sign symbol.Plus) _ tt
+    (choose (b == 45) mode.Minus _ tt (choose (b == 60) mode.Less _ tt (choose (b == 62) mode.Greater (mode.Bad here) tt tt)))))))))))))
 
 begun_is : (here : Position) (b : ℕ) → IsWordMode (begun here b)
 unfolding begun
@@ -88,7 +89,7 @@ keeps (mode.Slash d slash) began here b h = keep (is_digit b) (continued (mode.Q
 keeps (mode.Quotient d e) began here b h = keep (is_digit b) (continued (mode.Quotient d (with_digit e b)) began) _ (on _ began tt) (off _ here b tt)
 keeps (mode.Point d point) began here b h = keep (is_digit b) (continued (mode.Decimal (with_digit d b) 1) began) _ (on _ began tt) (record { word = tt; token = tt })
 keeps (mode.Decimal d k) began here b h = keep (is_digit b) (continued (mode.Decimal (with_digit d b) (min (k + 1) 7)) began) _ (on _ began tt) (off _ here b tt)
-keeps mode.Minus began here b h = on _ began (choose (b == 62) (mode.Sign symbol.Arrow) (mode.Bad began) tt tt)
+keeps mode.Minus began here b h = keep (b == 62) (continued (mode.Sign symbol.Arrow) began) _ (on _ began tt) (off (token.Sign symbol.Minus) here b tt)
 keeps mode.Less began here b h = on _ began (choose (b == 61) (mode.Sign symbol.LessEquals) _ tt (choose (b == 45) mode.LessMinus (mode.Bad began) tt tt))
 keeps mode.LessMinus began here b h = on _ began (choose (b == 62) (mode.Sign symbol.DoubleArrow) (mode.Bad began) tt tt)
 keeps mode.Greater began here b h = on _ began (choose (b == 61) (mode.Sign symbol.GreaterEquals) (mode.Bad began) tt tt)

@@ -10,3 +10,4 @@ count_kind excess.Atoms = kind.TooManyAtoms
 count_kind excess.Nodes = kind.TooManyNodes
 count_kind excess.Bounds = kind.TooManyBounds
 count_kind excess.Queries = kind.TooManyQueries
+count_kind excess.Numbers = kind.LinearTooLarge

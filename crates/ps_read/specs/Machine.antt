@@ -1,34 +1,42 @@
 -- The machine over tokens: what a token that isn't refused does to a draft.
-use Rattle.std.specs.Prelude.{ℕ, ◌/◌, Bool, true, false, if◌then◌else◌, bytes_eq, codes}
-use Rattle.std.specs.Prelude.{List, [], ◌∷◌, ◌++◌, Option, Some, None, length}
+use Rattle.std.specs.Prelude.{ℕ, ℤ, pos, unsigned_abs, ◌/◌, Bool, true, false, if◌then◌else◌, bytes_eq, codes}
+use Rattle.std.specs.Prelude.{List, [], ◌∷◌, ◌++◌, Option, Some, None, option_map, length}
 use Rattle.ps_meaning.specs.Formula as formula
-use Rattle.ps_meaning.specs.Statements.{Name, Ratio, Item, Stated, Asked}
+use Rattle.ps_meaning.specs.Statements.{Name, Ratio, Item, Stated, Plain, Linear, Asked}
 use Rattle.ps_meaning.specs.declared.side.Side.{Side}
 use Rattle.ps_meaning.specs.declared.side.Side.TheVariants as side
 use Rattle.ps_meaning.specs.Gcd.{gcd}
-use Rattle.ps_text.specs.Tokens.{Token, Word, Sign}
-use Rattle.ps_text.specs.declared.symbol.Symbol.TheVariants.{Close, Bang, Ampersand, Bar, Arrow, DoubleArrow, Equals, LessEquals}
-use Rattle.ps_text.specs.Meanings.{ratio_of}
+use Rattle.ps_text.specs.Tokens.{Token, Word, Number, Sign}
+use Rattle.ps_text.specs.declared.symbol.Symbol.TheVariants.{Close, Bang, Ampersand, Bar, Arrow, DoubleArrow}
+use Rattle.ps_text.specs.declared.symbol.Symbol.TheVariants.{Equals, LessEquals, Plus, Minus}
+use Rattle.ps_text.specs.Meanings.{ratio_of, with_sign}
 use Rattle.ps_text.specs.ExpectedTokens.{State, at_start, after}
 use Rattle.ps_text.specs.declared.part.Part.{Part}
 use Rattle.ps_text.specs.declared.part.Part.TheVariants as part
 use Rattle.ps_text.specs.PartialParses.{number_in}
 use Rattle.ps_problem.specs.declared.mark.Mark.TheVariants as mark
+use Rattle.ps_problem.specs.declared.term.Signed.{Signed}
+use Rattle.ps_problem.specs.declared.term.Term.{Term}
 use Rattle.ps_problem.specs.Numbering.{same_name, with_new}
-use Rattle.ps_problem.specs.Drafts.{Drafted, with_mark, with_formula, with_item, statement_at, question_at}
+use Rattle.ps_problem.specs.Drafts.{Drafted, with_mark, with_formula, with_item, statement_at, sum_at, question_at}
 use Rattle.ps_read.specs.declared.operator.Operator.{Operator}
 use Rattle.ps_read.specs.declared.operator.Operator.TheVariants as operator
 use Rattle.ps_read.specs.Pending.{Pending, waiting, reduced}
 
 -- what of an item was read: whether it is a query, whether `given` stood, the numbers of its formula and of its condition, how it
--- is bounded, and an interval's least value
+-- is bounded, an interval's least value, whether it is linear, whether a `-` stands before what is next, and in a linear sentence
+-- the last term's coefficient and the terms before it
 pub record ItemSoFar : Type 0 where
   pub query : Bool
   pub conditional : Bool
   pub formula : ℕ
   pub given : Option ℕ
   pub side : Side
-  pub least : Ratio
+  pub least : Signed
+  pub linear : Bool
+  pub minus : Bool
+  pub coefficient : Signed
+  pub terms : List Term
 
 -- what waits with the draft, and the item so far
 pub record Work : Type 0 where
@@ -40,6 +48,18 @@ pub record Machine : Type 0 where
   pub state : State
   pub work : Work
 
+-- 1, the coefficient of a term that spells none
+abbrev pub unit : Ratio
+unit = record { num = 1; den = 1 }
+
+-- a fraction behind a `-` or none
+abbrev pub signed : Bool → Ratio → Signed
+signed minus r = record { num = with_sign minus r.num; den = r.den }
+
+-- the size of a fraction that may be below 0
+abbrev pub size : Signed → Ratio
+size s = record { num = unsigned_abs s.num; den = s.den }
+
 -- before the first item
 abbrev pub none_yet : ItemSoFar
 none_yet = record {
@@ -48,7 +68,11 @@ none_yet = record {
   formula = 0;
   given = None;
   side = side.Exactly;
-  least = record { num = 0; den = 1 };
+  least = signed false unit;
+  linear = false;
+  minus = false;
+  coefficient = signed false unit;
+  terms = [];
 }
 
 -- before the first token
@@ -115,6 +139,46 @@ numbered i n = numbered_as i.conditional i n
 abbrev pub with_query : Work → Bool → Work
 with_query w q = record w { item = record w.item { query = q } }
 
+-- a linear sentence goes on behind these terms, and a `-` or none
+abbrev pub behind_terms : Work → List Term → Bool → Work
+behind_terms w ts m = record w { item = record w.item { query = false; linear = true; terms = ts; minus = m } }
+
+-- the last term of a linear sentence has this coefficient
+abbrev pub with_coefficient : Work → Signed → Work
+with_coefficient w k = record w { item = record w.item { coefficient = k } }
+
+-- a sentence begins that isn't linear so far, or a query, or the text ends
+abbrev pub plain_begun : Work → Work
+plain_begun w = record w { item = record w.item { query = false; linear = false } }
+
+-- an item begins, a linear one where its first token is a number or a `-`
+abbrev pub item_begun : Work → Token → Work
+item_begun w (Word u) = plain_begun w
+item_begun w (Number x) = with_coefficient (behind_terms w [] false) (signed false (value_in (Number x)))
+item_begun w (Sign s) = behind_terms w [] true
+
+-- at a coefficient, or the `P` of a term without one
+abbrev pub term_taken : Work → Token → Work
+term_taken w (Number x) = with_coefficient w (signed w.item.minus (value_in (Number x)))
+term_taken w t = with_coefficient w (signed w.item.minus unit)
+
+-- the last term of a linear sentence
+abbrev pub last_term : ItemSoFar → Term
+last_term i = record { formula = i.formula; coefficient = i.coefficient }
+
+-- a probability alone, as a term
+abbrev pub only_term : ItemSoFar → Term
+only_term i = record { formula = i.formula; coefficient = signed false unit }
+
+-- the terms of an item by whether it is linear: a probability alone is one whose coefficient is 1
+abbrev pub terms_by : Bool → ItemSoFar → List Term
+terms_by false i = only_term i ∷ []
+terms_by true i = i.terms ++ last_term i ∷ []
+
+-- a `-` stands before the next number, or none
+abbrev pub with_minus : Work → Bool → Work
+with_minus w m = record w { item = record w.item { minus = m } }
+
 -- whether `given` stood in the probability
 abbrev pub with_conditional : Work → Bool → Work
 with_conditional w c = record w { item = record w.item { conditional = c } }
@@ -165,31 +229,61 @@ side_in t = side.AtLeast
 
 -- the item so far is bounded on this side
 abbrev pub with_side : Work → Side → Work
-with_side w s = record w { item = record w.item { side = s } }
+with_side w s = record w { item = record w.item { side = s; minus = false } }
+
+-- behind a sign before a term, or what begins a relation
+abbrev pub relation_taken : Work → Token → Work
+relation_taken w (Sign Plus) = behind_terms w (terms_by w.item.linear w.item) false
+relation_taken w (Sign Minus) = behind_terms w (terms_by w.item.linear w.item) true
+relation_taken w t = with_side w (side_in t)
 
 -- the least value of an interval
-abbrev pub with_least : Work → Ratio → Work
-with_least w r = record w { item = record w.item { least = r } }
+abbrev pub with_least : Work → Signed → Work
+with_least w r = record w { item = record w.item { least = r; minus = false } }
+
+-- the item so far is stated with these values, as a linear sentence or not
+abbrev pub stated_by : Bool → List (formula.Formula Name) → ItemSoFar → Signed → Option Signed → Item
+stated_by false fs i r upper = Stated (Plain (statement_at fs i.formula i.given i.side (size r) (option_map size upper)))
+stated_by true fs i r upper = Stated (Linear (sum_at fs (terms_by true i) i.side r upper))
 
 -- the item so far is stated with these values
-abbrev pub stated : List (formula.Formula Name) → ItemSoFar → Ratio → Option Ratio → Item
-stated fs i r upper = Stated (statement_at fs i.formula i.given i.side r upper)
+abbrev pub stated : List (formula.Formula Name) → ItemSoFar → Signed → Option Signed → Item
+stated fs i r upper = stated_by i.linear fs i r upper
 
--- the item so far is in the draft, as a statement with these values
-abbrev pub with_sentence : Work → Ratio → Option Ratio → Work
-with_sentence w r upper = with_draft w (with_item w.pending.draft (stated w.pending.draft.formulas w.item r upper))
+-- the item so far is in the draft, as a statement with these values; of a linear one all terms are behind it
+abbrev pub with_sentence : Work → Signed → Option Signed → Work
+with_sentence w r upper = record {
+  pending = record w.pending { draft = with_item w.pending.draft (stated w.pending.draft.formulas w.item r upper) };
+  item = if w.item.linear then record w.item { terms = terms_by true w.item } else w.item;
+}
+
+-- at the number of a relation, or a `-` before it
+abbrev pub number_taken : Work → Token → Work
+number_taken w (Number x) = with_sentence w (signed w.item.minus (value_in (Number x))) None
+number_taken w t = with_minus w true
+
+-- at the least number of an interval, or a `-` before it
+abbrev pub least_taken : Work → Token → Work
+least_taken w (Number x) = with_least w (signed w.item.minus (value_in (Number x)))
+least_taken w t = with_minus w true
+
+-- at the greatest number of an interval, or a `-` before it
+abbrev pub most_taken : Work → Token → Work
+most_taken w (Number x) = with_sentence w w.item.least (Some (signed w.item.minus (value_in (Number x))))
+most_taken w t = with_minus w true
 
 -- what a token does, by the part where it stands; the others change only what is expected
 abbrev pub taken_at : Part → Work → Token → Work
-taken_at part.Item w t = with_query w false
+taken_at part.Item w t = item_begun w t
+taken_at part.Term w t = term_taken w t
 taken_at part.QueryProb w t = with_query w true
 taken_at part.Paren w t = with_conditional w false
 taken_at part.Operand w t = with_pending w (operand_taken w.pending t)
 taken_at part.Operator w t = operator_taken w t
-taken_at part.Relation w t = with_side w (side_in t)
-taken_at part.Number w t = with_sentence w (value_in t) None
-taken_at part.First w t = with_least w (value_in t)
-taken_at part.Second w t = with_sentence w w.item.least (Some (value_in t))
+taken_at part.Relation w t = relation_taken w t
+taken_at part.Number w t = number_taken w t
+taken_at part.First w t = least_taken w t
+taken_at part.Second w t = most_taken w t
 taken_at p w t = w
 
 -- what a token does in this state

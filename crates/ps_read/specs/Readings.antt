@@ -4,7 +4,7 @@ use Rattle.ps_meaning.specs.Formula.{Formula}
 use Rattle.ps_meaning.specs.Statements.{Name, Item}
 use Rattle.ps_text.specs.Tokens.{Token}
 use Rattle.ps_text.specs.Pieces.{Piece, Spelled, texts, tokens}
-use Rattle.ps_text.specs.Grammar.{ItemSyntax, tokens_up_to}
+use Rattle.ps_text.specs.Grammar.{ItemSyntax, TextSyntax, tokens_up_to}
 use Rattle.ps_text.specs.Fronts.{IsFront}
 use Rattle.ps_text.specs.Positions.{Position, position_of}
 use Rattle.ps_text.specs.declared.kind.ReadKind.{ReadKind}
@@ -29,17 +29,17 @@ pub record SpellsProblem (bytes : List ℕ) (p : Parts) (place : ℕ) : Type 0 w
 
 -- the item of this number, from 1 on, is one of a text's, and the first of its tokens stands at this place:
 -- the tokens before it are those of the text up to the items before it
-pub record BeginsItem (pieces : List Piece) (written : List ItemSyntax) (number : ℕ) (place : ℕ) : Type 0 where
+pub record BeginsItem (pieces : List Piece) (written : TextSyntax) (number : ℕ) (place : ℕ) : Type 0 where
   pub earlier : List ItemSyntax
   pub item : ItemSyntax
   pub later : List ItemSyntax
-  pub written_are : written ≡ earlier ++ item ∷ later
+  pub written_are : written.items ≡ earlier ++ item ∷ later
   pub number_is : number ≡ length earlier + 1
   pub before : List Piece
   pub first : Token
   pub behind : List Piece
   pub pieces_are : pieces ≡ before ++ Spelled first ∷ behind
-  pub tokens_are : tokens before ≡ tokens_up_to earlier
+  pub tokens_are : tokens before ≡ tokens_up_to (record { version = written.version; items = earlier })
   pub place_is : place ≡ length (texts before)
 
 -- the form of the bytes is refused for this kind at this position: no token before it is refused

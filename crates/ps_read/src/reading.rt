@@ -42,6 +42,7 @@ fn excess(error: BuildError) -> Option<(ReadKind, u32)>
         BuildError::TooManyNodes { item } => Some((ReadKind::TooManyNodes, item)),
         BuildError::TooManyBounds { item } => Some((ReadKind::TooManyBounds, item)),
         BuildError::TooManyQueries { item } => Some((ReadKind::TooManyQueries, item)),
+        BuildError::LinearTooLarge { item } => Some((ReadKind::LinearTooLarge, item)),
         BuildError::NoMemory => None,
     }
 }

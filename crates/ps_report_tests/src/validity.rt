@@ -43,10 +43,15 @@ const WEATHER: &[u8] = b"psat 1; P(rain) = 3/10; P(!wind) = 1/2; end;";
 
 const HALF: &[u8] = b"psat 1; P(a) = 1/2; end;";
 
+// The second of these bounds is the upper one of an interval; a is at least 1/2, since b is at most 1.
+const SUM: &[u8] = b"psat 2; 1 P(a) + 1 P(b) in [3/2, 7/4]; 1 P(a) <= 1/4; end;";
+
+const AHEAD: &[u8] = b"psat 2; P(a) - P(b) >= 1/2; end;";
+
 pub(crate) const HALF_ASKED: &[u8] = b"psat 1; P(a) >= 1/2; query P(a); end;";
 
 // Problems, reports, how much they claim and how much they leave open.
-pub(crate) const ACCEPTED: [(&[u8], &[u8], u32, u32); 6] = [
+pub(crate) const ACCEPTED: [(&[u8], &[u8], u32, u32); 9] = [
     (EVIDENCE, EVIDENCE_DIVIDED, 3, 0),
     (
         IMPOSSIBLE,
@@ -83,10 +88,30 @@ pub(crate) const ACCEPTED: [(&[u8], &[u8], u32, u32); 6] = [
         2,
         1,
     ),
+    // The combination is 1 + (2a + 2!a - 3), which is 0 in each world: the goal makes both true.
+    (
+        b"psat 2; 1 P(a) + 1 P(!a) >= 3/2; end;",
+        b"report 1\ninconsistent\ndual 0 1 1\ny 1\ns 4 0 3 2 0\nt 0\nend\n",
+        1,
+        0,
+    ),
+    // The combination is 1 + (4a + 4b - 6) - (4a - 1), so it is at most 0.
+    (
+        SUM,
+        b"report 1\ninconsistent\ndual 0 1 1\ny 1 0 -1\ns 2 0 1 0\nt 0\nend\n",
+        1,
+        0,
+    ),
+    (
+        AHEAD,
+        b"report 1\nconsistent\nmodel 2 2\nw 1 10\nw 1 00\nt 0\nend\n",
+        1,
+        0,
+    ),
 ];
 
 // Problems, reports, the first claim at fault and the first reason against it.
-pub(crate) const REFUSED: [(&[u8], &[u8], Claim, Reason); 7] = [
+pub(crate) const REFUSED: [(&[u8], &[u8], Claim, Reason); 10] = [
     (
         EVIDENCE,
         EVIDENCE_NOT_DIVIDED,
@@ -132,6 +157,24 @@ pub(crate) const REFUSED: [(&[u8], &[u8], Claim, Reason); 7] = [
         b"report 1\nconsistent\nmodel 2 2\nw 1 1\nw 1 0\nt 0\nend\n",
         Claim::Report,
         Reason::WrongShape,
+    ),
+    (
+        SUM,
+        b"report 1\ninconsistent\ndual 0 1 1\ny 1 1 -1\ns 2 0 1 0\nt 0\nend\n",
+        Claim::Verdict,
+        Reason::MultiplierSign { bound: 2 },
+    ),
+    (
+        SUM,
+        b"report 1\nconsistent\nmodel 1 1\nw 1 11\nt 0\nend\n",
+        Claim::Verdict,
+        Reason::BoundMissed { bound: 2 },
+    ),
+    (
+        AHEAD,
+        b"report 1\nconsistent\nmodel 2 2\nw 1 10\nw 1 01\nt 0\nend\n",
+        Claim::Verdict,
+        Reason::BoundMissed { bound: 1 },
     ),
 ];
 

@@ -7,15 +7,19 @@ use Rattle.ps_clause.specs.Forms.{form_of, first_known, MeetsForm}
 use Rattle.ps_clause.specs.Extensions.{extension}
 use Rattle.ps_pb.specs.Steps.{Refutes}
 use Rattle.ps_problem.specs.declared.query.Query as stored
-use Rattle.ps_problem.specs.declared.bound.Bound.{Bound}
-use Rattle.ps_problem.specs.Problems.{Parts, AreParts, bounds_in, bounds_of}
+use Rattle.ps_problem.specs.declared.row.Row.{Row}
+use Rattle.ps_problem.specs.Problems.{Parts, AreParts, bounds_of}
+use Rattle.ps_problem.specs.Rows.{rows_in}
+use Rattle.ps_problem.proofs.BoundRows.{are-rows}
 use Rattle.ps_claims.specs.Answers.{ShowsConsistent}
 use Rattle.ps_claims.specs.declared.claim_kind.ClaimKind.{ClaimKind}
 use Rattle.ps_claims.specs.declared.claim_kind.ClaimKind.TheVariants.{Nothing, Lower, Upper}
 use Rattle.ps_claims.specs.Duals.{Dual, combination, HaveSigns}
 use Rattle.ps_claims.specs.Goals.{value_under, plus, at_node, at_condition, rows_times, claimed_of, combination_of, goal_of}
+use Rattle.ps_claims.specs.Rows.{problem_rows}
 use Rattle.ps_claims.specs.Validity.{IsRefuted, ShowsNothing}
 use Rattle.ps_claims.proofs.NodeSums.{value-nothing, value-claimed, value-combination}
+use Rattle.ps_claims.proofs.ProblemRows.{problem-rows}
 use Rattle.ps_claims.proofs.Refutations.{extension-meets}
 use Rattle.ps_runs.specs.Programs.{RefutesGain}
 use Rattle.ps_runs.specs.Rows.{phase_of, IsTable}
@@ -27,16 +31,16 @@ use Rattle.ps_runs.proofs.Resting.{rest_signs}
 use Rattle.ps_runs.proofs.Shown.{allowed_at_end, small_at_end, nothing_head}
 
 value_is : (kind : ClaimKind) (p : Parts) (q : Option stored.Query) (d : Dual) (w : World) → AreParts p → IsAsked kind p q
-    → value_under (extension p.nodes w) (combination_of kind (given_in q) (both_in q) (bounds_in p.sentences) d) ≡ combination kind (bounds_of p) (asked_in p q) d w
+    → value_under (extension p.nodes w) (combination_of kind (given_in q) (both_in q) (rows_in p.sentences) d) ≡ combination kind (problem_rows p) (asked_in p q) d w
 value_is kind p None d w are asked =
-    subst (λ k. value_under (extension p.nodes w) (combination_of k None 0 (bounds_in p.sentences) d) ≡ combination k (bounds_of p) (asked_in p None) d w) (sym asked)
-    (value-combination Nothing p.nodes w None 0 (bounds_in p.sentences) (asked_in p None) d are.bounds (value-nothing p.nodes w None 0 (asked_in p None) d tt refl))
+    subst (λ k. value_under (extension p.nodes w) (combination_of k None 0 (rows_in p.sentences) d) ≡ combination k (problem_rows p) (asked_in p None) d w) (sym asked)
+    (value-combination Nothing p.nodes w None 0 (rows_in p.sentences) (asked_in p None) d (are-rows p.nodes p.sentences are.bounds) (value-nothing p.nodes w None 0 (asked_in p None) d tt refl))
 value_is kind p (Some q) d w are has =
-    value-combination kind p.nodes w q.given q.both (bounds_in p.sentences) (asked_in p (Some q)) d are.bounds (value-claimed kind p.nodes w q d has)
+    value-combination kind p.nodes w q.given q.both (rows_in p.sentences) (asked_in p (Some q)) d (are-rows p.nodes p.sentences are.bounds) (value-claimed kind p.nodes w q d has)
 
 -- the combination over the nodes has at a world's extension its value in the world
 pub value_of_gain : (kind : ClaimKind) (s : Subject) (d : Dual) (w : World) → AreParts s.parts → IsAsked kind s.parts s.query
-    → value_under (extension s.parts.nodes w) (combination_over kind s d) ≡ combination kind (setting_of s).bounds (setting_of s).query d w
+    → value_under (extension s.parts.nodes w) (combination_over kind s d) ≡ combination kind (setting_of s).rows (setting_of s).query d w
 value_of_gain kind s d w are asked = value_is kind s.parts s.query d w are asked
 
 -- what no assignment that meets the form is above, no world is above
@@ -53,9 +57,9 @@ same_claim Nothing given both d e same = ap (λ h. at_condition h given) same.he
 same_claim Lower given both d e same = λ i. plus (at_condition (same.head i) given) (at_node (neg_ℤ (same.top i)) both)
 same_claim Upper given both d e same = λ i. plus (at_node (same.top i) both) (at_condition (neg_ℤ (same.head i)) given)
 
-pub same_combination : (kind : ClaimKind) (given : Option ℕ) (both : ℕ) (bounds : List Bound) (d e : Dual) → HaveSameNumbers d e
-    → combination_of kind given both bounds d ≡ combination_of kind given both bounds e
-same_combination kind given both bounds d e same = λ i. plus (same_claim kind given both d e same i) (rows_times (same.rows i) bounds)
+pub same_combination : (kind : ClaimKind) (given : Option ℕ) (both : ℕ) (rows : List Row) (d e : Dual) → HaveSameNumbers d e
+    → combination_of kind given both rows d ≡ combination_of kind given both rows e
+same_combination kind given both rows d e same = λ i. plus (same_claim kind given both d e same i) (rows_times (same.rows i) rows)
 
 module _ (kind : ClaimKind) (s : Subject) (g : Stage) (X : ℕ → ℕ → Rational) (d : Dual) (same : HaveSameNumbers d (dual_at (program_of kind s) g X)) where
   -- steps that refute the table's goal make a dual with its numbers a refutation
@@ -63,10 +67,10 @@ module _ (kind : ClaimKind) (s : Subject) (g : Stage) (X : ℕ → ℕ → Ratio
       → RefutesGain (program_of kind s) (dual_at (program_of kind s) g X) d.steps
       → IsRefuted s.parts kind (given_in s.query) (both_in s.query) d
   refuted_at_rest rest steps = record {
-    signs = subst (HaveSigns (bounds_of s.parts)) (sym same.rows) (rest_signs kind (setting_of s) g.pool g.basis X rest);
+    signs = subst (HaveSigns (problem_rows s.parts)) (sym same.rows) (rest_signs kind (setting_of s) g.pool g.basis X rest);
     steps =
         subst (λ c. Refutes (length s.parts.nodes) (first_known (form_of s.parts.nodes) (goal_of c)) d.steps)
-        (sym (same_combination kind (given_in s.query) (both_in s.query) (bounds_in s.parts.sentences) d (dual_at (program_of kind s) g X) same)) steps;
+        (sym (same_combination kind (given_in s.query) (both_in s.query) (rows_in s.parts.sentences) d (dual_at (program_of kind s) g X) same)) steps;
   }
 
 -- where phase one so rests, nothing is allowed
@@ -83,9 +87,11 @@ nothing_at_rest s g X d same t rest steps =
     }
 
 -- a feasible table's model shows that the bounds are consistent
-pub consistent_at_end : (s : Subject) (g : Stage) (X : ℕ → ℕ → Rational) → IsTable (setting_of s) g.pool g.basis X → IsFeasible (table_at (frame_of s) g X) → IsPool (atoms_of s) g.pool
+pub consistent_at_end : (s : Subject) (g : Stage) (X : ℕ → ℕ → Rational) → AreParts s.parts → IsTable (setting_of s) g.pool g.basis X → IsFeasible (table_at (frame_of s) g X) → IsPool (atoms_of s) g.pool
     → ShowsConsistent (atoms_of s) (bounds_of s.parts) (table_model (table_at (frame_of s) g X) g.pool)
-consistent_at_end s g X t feasible pooled = record {
-  model = (allowed_at_end (setting_of s) g.pool g.basis X t (atoms_of s) feasible pooled.different pooled.sized).model;
-  basic = small_at_end (setting_of s) g.pool g.basis X t;
-}
+consistent_at_end s g X are t feasible pooled =
+    let of = problem-rows s.parts are in
+    record {
+      model = (allowed_at_end (bounds_of s.parts) (setting_of s) g.pool g.basis X of t (atoms_of s) feasible pooled.different pooled.sized).model;
+      basic = small_at_end (bounds_of s.parts) (setting_of s) g.pool g.basis X of t;
+    }

@@ -27,7 +27,7 @@ world_at s pool m k =
     place i = omega arith
 
 pub rows_length : (s : Setting) → length (artificial_rows s) ≡ rows_of s
-rows_length s = ap suc (length-map s.bounds (λ b. is_exact b.side))
+rows_length s = ap suc (length-map s.rows (λ r. is_exact r.side))
 
 costs_length : (kind : ClaimKind) (s : Setting) → length (map (home_cost kind) (artificial_rows s)) ≡ rows_of s
 costs_length kind s = length-map (artificial_rows s) (home_cost kind) ∙ rows_length s

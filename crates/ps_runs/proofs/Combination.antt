@@ -8,8 +8,7 @@ use Rattle.ps_meaning.proofs.IntRing.{neg-*ℤ, *ℤ_comm, *ℤ-zero}
 use Rattle.ps_meaning.specs.Formula.{World}
 use Rattle.ps_meaning.specs.declared.side.Side.{Side}
 use Rattle.ps_meaning.specs.declared.side.Side.TheVariants.{AtLeast, AtMost, Exactly}
-use Rattle.ps_meaning.specs.Bounds.{Bound}
-use Rattle.ps_meaning.specs.Rows.{indicator, row_value}
+use Rattle.ps_meaning.specs.Rows.{Row, indicator, row_in}
 use Rattle.ps_simplex.specs.Rule.{SimplexTable}
 use Rattle.ps_simplex.proofs.Combination.{combination_is, improves_from, improves_back}
 use Rattle.ps_problem.specs.Rows.{signed_by}
@@ -35,27 +34,27 @@ sum_first : (n : ℕ) (f : ℕ → ℤ) → int_sum_to (suc n) f ≡ f 0 +ℤ in
 sum_first zero f = omega (arith, ints)
 sum_first (suc n) f = let e = sum_first n f in omega (arith, ints, e)
 
--- a number for each bound
-pub signed-length : (bs : List Bound) (P : ℕ → ℤ) → length (signed bs P) ≡ length bs
+-- a number for each row
+pub signed-length : (rs : List Row) (P : ℕ → ℤ) → length (signed rs P) ≡ length rs
 signed-length [] P = refl
-signed-length (b ∷ bs) P = ap suc (signed-length bs (λ i. P (suc i)))
+signed-length (r ∷ rs) P = ap suc (signed-length rs (λ i. P (suc i)))
 
-rows_sum_is : (bs : List Bound) (P : ℕ → ℤ) (w : World) → sum_of_rows bs (signed bs P) w ≡ int_sum_to (length bs) (λ i. P i *ℤ get_or (map (entry_in w) bs) i (pos 0))
+rows_sum_is : (rs : List Row) (P : ℕ → ℤ) (w : World) → sum_of_rows rs (signed rs P) w ≡ int_sum_to (length rs) (λ i. P i *ℤ get_or (map (entry_in w) rs) i (pos 0))
 rows_sum_is [] P w = refl
-rows_sum_is (b ∷ bs) P w =
-    (λ i. turned_out b.side (P 0) (row_value b w) i +ℤ rows_sum_is bs (λ k. P (suc k)) w i)
-    ∙ sym (sum_first (length bs) (λ i. P i *ℤ get_or (map (entry_in w) (b ∷ bs)) i (pos 0)))
+rows_sum_is (r ∷ rs) P w =
+    (λ i. turned_out r.side (P 0) (row_in r w) i +ℤ rows_sum_is rs (λ k. P (suc k)) w i)
+    ∙ sym (sum_first (length rs) (λ i. P i *ℤ get_or (map (entry_in w) (r ∷ rs)) i (pos 0)))
 
 -- the sum over all rows
 entries_sum : (s : Setting) (P : ℕ → ℤ) (w : World)
-    → int_sum_to (rows_of s) (λ m. P m *ℤ get_or (entries_of s w) m (pos 0)) ≡ (P 0 *ℤ indicator s.query.evidence w) +ℤ sum_of_rows s.bounds (signed s.bounds (λ i. P (suc i))) w
+    → int_sum_to (rows_of s) (λ m. P m *ℤ get_or (entries_of s w) m (pos 0)) ≡ (P 0 *ℤ indicator s.query.evidence w) +ℤ sum_of_rows s.rows (signed s.rows (λ i. P (suc i))) w
 entries_sum s P w =
-    sum_first (length s.bounds) (λ m. P m *ℤ get_or (entries_of s w) m (pos 0))
-    ∙ ap (λ k. (P 0 *ℤ indicator s.query.evidence w) +ℤ k) (sym (rows_sum_is s.bounds (λ i. P (suc i)) w))
+    sum_first (length s.rows) (λ m. P m *ℤ get_or (entries_of s w) m (pos 0))
+    ∙ ap (λ k. (P 0 *ℤ indicator s.query.evidence w) +ℤ k) (sym (rows_sum_is s.rows (λ i. P (suc i)) w))
 
 -- the combination of a table's dual, by rows
 combination_sum : (kind : ClaimKind) (s : Setting) (f : SimplexTable) (cost : ℕ → Rational) (w : World)
-    → combination kind s.bounds s.query (table_dual kind s f cost) w
+    → combination kind s.rows s.query (table_dual kind s f cost) w
     ≡ int_sum_to (rows_of s) (λ m. whole_multiplier f cost m *ℤ get_or (entries_of s w) m (pos 0)) +ℤ (neg_ℤ (pos (multiple_of f cost)) *ℤ world_cost kind s w)
 combination_sum Nothing s f cost w =
     let e = entries_sum s (whole_multiplier f cost) w in
@@ -83,7 +82,7 @@ multiplier_scaled f cost m l = scaled_is (multiple_of f cost) (multipliers f cos
 
 -- the combination is a positive whole multiple of what the world's column is priced above its cost
 pub gain_is : (kind : ClaimKind) (s : Setting) (f : SimplexTable) (cost : ℕ → Rational) (w : World) → f.rows ≡ rows_of s
-    → whole (combination kind s.bounds s.query (table_dual kind s f cost) w) ≡ mul (whole (pos (multiple_of f cost))) (sub (price s f cost w) (whole (world_cost kind s w)))
+    → whole (combination kind s.rows s.query (table_dual kind s f cost) w) ≡ mul (whole (pos (multiple_of f cost))) (sub (price s f cost w) (whole (world_cost kind s w)))
 gain_is kind s f cost w e =
     ap whole (combination_sum kind s f cost w)
     ∙ combination_is (rows_of s) (multiple_of f cost) (whole_multiplier f cost) (λ m. get_or (entries_of s w) m (pos 0)) (world_cost kind s w) (multipliers f cost) (price s f cost w)
@@ -92,8 +91,8 @@ gain_is kind s f cost w e =
 
 -- so it is at least 1 exactly where the column is priced above its cost
 pub above_priced : (kind : ClaimKind) (s : Setting) (f : SimplexTable) (cost : ℕ → Rational) (w : World) → f.rows ≡ rows_of s
-    → (pos 0 <ℤ combination kind s.bounds s.query (table_dual kind s f cost) w) ↔ IsLess (whole (world_cost kind s w)) (price s f cost w)
+    → (pos 0 <ℤ combination kind s.rows s.query (table_dual kind s f cost) w) ↔ IsLess (whole (world_cost kind s w)) (price s f cost w)
 above_priced kind s f cost w e = (
-  improves_from (multiple_of f cost) (combination kind s.bounds s.query (table_dual kind s f cost) w) (price s f cost w) (whole (world_cost kind s w)) (gain_is kind s f cost w e),
-  improves_back (multiple_of f cost) (combination kind s.bounds s.query (table_dual kind s f cost) w) (price s f cost w) (whole (world_cost kind s w)) (multiple_positive f cost) (gain_is kind s f cost w e),
+  improves_from (multiple_of f cost) (combination kind s.rows s.query (table_dual kind s f cost) w) (price s f cost w) (whole (world_cost kind s w)) (gain_is kind s f cost w e),
+  improves_back (multiple_of f cost) (combination kind s.rows s.query (table_dual kind s f cost) w) (price s f cost w) (whole (world_cost kind s w)) (multiple_positive f cost) (gain_is kind s f cost w e),
 )

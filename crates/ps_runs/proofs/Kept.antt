@@ -1,12 +1,12 @@
 -- The kept sentences of a problem, and duals with multiplier 0 at the bounds of the others.
-use Rattle.std.proofs.Common.{drop, get_or, append_assoc, ◌≡◌, ℕ, zero, suc, ◌+◌, ◌<◌, ◌≤◌, ◌-◌, ℤ, pos, ◌+ℤ◌, ◌-ℤ◌, ◌*ℤ◌, neg_ℤ, Bool, true, false, cond, Option, Some, None, List, [], ◌∷◌, ◌++◌, length, map, All, refl, sym, ap, ◌∙◌, subst, arith}
+use Rattle.std.proofs.Common.{drop, get_or, append_assoc, ◌≡◌, ℕ, zero, suc, ◌+◌, ◌<◌, ◌≤◌, ◌-◌, ℤ, pos, ◌+ℤ◌, ◌-ℤ◌, ◌*ℤ◌, Bool, true, false, cond, Option, List, [], ◌∷◌, ◌++◌, length, map, All, refl, sym, ap, ◌∙◌, subst, arith}
 use Rattle.std.specs.Prelude.{◌==◌}
 use Rattle.std.proofs.lemmas.Int.{ints}
 use Rattle.std.proofs.lemmas.Bool.{true≢false}
-use Rattle.std.proofs.lemmas.List.{append-nil}
+use Rattle.std.proofs.lemmas.List.{append-nil, length-append, length-map}
 use Rattle.std.proofs.lemmas.Slice.Zip.{AllZip-long}
 use Rattle.std.proofs.Math.Seq.{drop-cons}
-use Rattle.std.proofs.lemmas.List.Elements.{All-nil, All-cons, All-head, All-tail}
+use Rattle.std.proofs.lemmas.List.Elements.{All-nil, All-cons, All-head, All-tail, All-append}
 use Rattle.ps_meaning.specs.declared.side.Side.{Side}
 use Rattle.ps_meaning.proofs.Integers.{mul-zero}
 use Rattle.ps_meaning.proofs.IntRing.{*ℤ_comm}
@@ -17,14 +17,15 @@ use Rattle.ps_pb.specs.Assignments.{place}
 use Rattle.ps_pb.specs.Weights.{Weighted, constant_of, coefficient_at, term_at, turned, terms_below, sum_below, last_variable, constraint_of}
 use Rattle.ps_clause.specs.Forms.{form_of, first_known}
 use Rattle.ps_formula.specs.declared.node.Node.{Node}
-use Rattle.ps_problem.specs.declared.bound.Bound.{Bound}
+use Rattle.ps_problem.specs.declared.row.Row.{Row}
 use Rattle.ps_problem.specs.declared.sentence.Sentence.{Sentence}
-use Rattle.ps_problem.specs.Problems.{Parts, AreParts, bounds_in, bound_of, IsBound}
+use Rattle.ps_problem.specs.Problems.{Parts, AreParts, bounds_in, bounds_of_sentence, IsBoundIn}
+use Rattle.ps_problem.specs.Rows.{row_at, row_of, rows_in}
 use Rattle.ps_claims.specs.declared.claim_kind.ClaimKind.{ClaimKind}
 use Rattle.ps_claims.specs.declared.claim_kind.ClaimKind.TheVariants.{Nothing, Lower, Upper}
 use Rattle.ps_claims.specs.Duals.{Dual, HasSign, HaveSigns, AreZeroElsewhere}
 use Rattle.ps_claims.specs.declared.weighted_sum.Combination.{Combination}
-use Rattle.ps_claims.specs.Goals.{nothing, plus, at_node, at_condition, row_times, rows_times, claimed_of, combination_of, goal_of}
+use Rattle.ps_claims.specs.Goals.{nothing, plus, term_times, row_times, rows_times, claimed_of, combination_of, goal_of}
 use Rattle.ps_claims.specs.Validity.{IsRefuted}
 use Rattle.ps_runs.specs.Kept.{kept_of, flags_of, kept_parts, kept_dual, IsChoice, AreAllKept}
 
@@ -68,12 +69,7 @@ kept-split true ks x xs = refl
 kept-split false ks x xs = refl
 
 flags-split : (k : Bool) (ks : List Bool) (s : Sentence) (ss : List Sentence) → flags_of (k ∷ ks) (s ∷ ss) ≡ flags_of (k ∷ []) (s ∷ []) ++ flags_of ks ss
-flags-split k ks s ss = by_second s.first s.second
-  where
-    by_second : (first : Bound) (second : Option Bound)
-        → flags_of (k ∷ ks) (record { first = first; second = second } ∷ ss) ≡ flags_of (k ∷ []) (record { first = first; second = second } ∷ []) ++ flags_of ks ss
-    by_second first None = refl
-    by_second first (Some b) = refl
+flags-split k ks s ss = ap (λ fs. fs ++ flags_of ks ss) (sym (append-nil (map (λ b. k) (bounds_of_sentence s))))
 
 module _ (ks : List Bool) (i : ℕ) (k : Bool) (inside : i < length ks) where
   pub kept-left : {T : Type 0} (xs : List T) (x : T) → i < length xs
@@ -86,40 +82,52 @@ module _ (ks : List Bool) (i : ℕ) (k : Bool) (inside : i < length ks) where
   flags-left ss s there =
       (λ j. flags_of (drop-cons ks i k inside j) (drop-cons ss i s there j)) ∙ flags-split (get_or ks i k) (drop (suc i) ks) (get_or ss i s) (drop (suc i) ss)
 
--- ---- bounds
+-- ---- bounds and rows
+-- items with one truth value for all are kept, all or none
+kept-run : {T : Type 0} (k : Bool) (xs ys : List T) (ks : List Bool) → kept_of (map (λ (x : T). k) xs ++ ks) (xs ++ ys) ≡ cond k (xs ++ kept_of ks ys) (kept_of ks ys)
+kept-run true [] ys ks = refl
+kept-run true (x ∷ xs) ys ks = ap (λ zs. x ∷ zs) (kept-run true xs ys ks)
+kept-run false [] ys ks = refl
+kept-run false (x ∷ xs) ys ks = kept-run false xs ys ks
+
+kept-map : {T U : Type 0} (f : T → U) (ks : List Bool) (xs : List T) → map f (kept_of ks xs) ≡ kept_of ks (map f xs)
+kept-map f [] xs = refl
+kept-map f (k ∷ ks) [] = refl
+kept-map f (true ∷ ks) (x ∷ xs) = ap (λ ys. f x ∷ ys) (kept-map f ks xs)
+kept-map f (false ∷ ks) (x ∷ xs) = kept-map f ks xs
+
 pub bounds-kept : (ks : List Bool) (ss : List Sentence) → bounds_in (kept_of ks ss) ≡ kept_of (flags_of ks ss) (bounds_in ss)
 bounds-kept [] ss = refl
 bounds-kept (k ∷ ks) [] = refl
-bounds-kept (k ∷ ks) (s ∷ ss) = by_second k s.first s.second (bounds-kept ks ss)
-  where
-    by_second : (k : Bool) (first : Bound) (second : Option Bound) → bounds_in (kept_of ks ss) ≡ kept_of (flags_of ks ss) (bounds_in ss)
-        → bounds_in (cond k (record { first = first; second = second } ∷ kept_of ks ss) (kept_of ks ss))
-        ≡ kept_of (flags_of (k ∷ ks) (record { first = first; second = second } ∷ ss)) (bounds_in (record { first = first; second = second } ∷ ss))
-    by_second true first None rest = ap (λ bs. first ∷ bs) rest
-    by_second true first (Some b) rest = ap (λ bs. first ∷ b ∷ bs) rest
-    by_second false first None rest = rest
-    by_second false first (Some b) rest = rest
+bounds-kept (true ∷ ks) (s ∷ ss) =
+    ap (λ bs. bounds_of_sentence s ++ bs) (bounds-kept ks ss) ∙ sym (kept-run true (bounds_of_sentence s) (bounds_in ss) (flags_of ks ss))
+bounds-kept (false ∷ ks) (s ∷ ss) = bounds-kept ks ss ∙ sym (kept-run false (bounds_of_sentence s) (bounds_in ss) (flags_of ks ss))
 
-pub length-flags : (ks : List Bool) (ss : List Sentence) → length ks ≡ length ss → length (flags_of ks ss) ≡ length (bounds_in ss)
-length-flags [] [] e = refl
-length-flags [] (s ∷ ss) e = absurd (omega (arith, e))
-length-flags (k ∷ ks) [] e = absurd (omega (arith, e))
-length-flags (k ∷ ks) (s ∷ ss) e = by_second s.first s.second (length-flags ks ss (omega (arith, e)))
-  where
-    by_second : (first : Bound) (second : Option Bound) → length (flags_of ks ss) ≡ length (bounds_in ss)
-        → length (flags_of (k ∷ ks) (record { first = first; second = second } ∷ ss)) ≡ length (bounds_in (record { first = first; second = second } ∷ ss))
-    by_second first None rest = ap suc rest
-    by_second first (Some b) rest = ap (λ n. suc (suc n)) rest
+pub rows-kept : (ks : List Bool) (ss : List Sentence) → rows_in (kept_of ks ss) ≡ kept_of (flags_of ks ss) (rows_in ss)
+rows-kept ks ss = ap (map row_at) (bounds-kept ks ss) ∙ kept-map row_at (flags_of ks ss) (bounds_in ss)
+
+length-both : (ks : List Bool) (ss : List Sentence) → length ks ≡ length ss → length (flags_of ks ss) ≡ length (bounds_in ss)
+length-both [] [] e = refl
+length-both [] (s ∷ ss) e = absurd (omega (arith, e))
+length-both (k ∷ ks) [] e = absurd (omega (arith, e))
+length-both (k ∷ ks) (s ∷ ss) e =
+    length-append (map (λ b. k) (bounds_of_sentence s)) (flags_of ks ss)
+    ∙ (λ i. length-map (bounds_of_sentence s) (λ b. k) i + length-both ks ss (omega (arith, e)) i)
+    ∙ sym (length-append (bounds_of_sentence s) (bounds_in ss))
+
+pub length-flags : (ks : List Bool) (ss : List Sentence) → length ks ≡ length ss → length (flags_of ks ss) ≡ length (rows_in ss)
+length-flags ks ss e = length-both ks ss e ∙ sym (length-map (bounds_in ss) row_at)
 
 pub flags-all : (ks : List Bool) (ss : List Sentence) → AreAllKept ks → AreAllKept (flags_of ks ss)
 flags-all [] ss all = All-nil (λ k. k ≡ true)
 flags-all (k ∷ ks) [] all = All-nil (λ k. k ≡ true)
 flags-all (k ∷ ks) (s ∷ ss) all =
-    by_second s.first s.second (All-head (λ k. k ≡ true) k ks all) (flags-all ks ss (All-tail (λ k. k ≡ true) k ks all))
+    All-append (λ k. k ≡ true) (map (λ b. k) (bounds_of_sentence s)) (flags_of ks ss) (each (bounds_of_sentence s) (All-head (λ k. k ≡ true) k ks all))
+    (flags-all ks ss (All-tail (λ k. k ≡ true) k ks all))
   where
-    by_second : (first : Bound) (second : Option Bound) → k ≡ true → AreAllKept (flags_of ks ss) → AreAllKept (flags_of (k ∷ ks) (record { first = first; second = second } ∷ ss))
-    by_second first None own rest = All-cons (λ k. k ≡ true) k (flags_of ks ss) own rest
-    by_second first (Some b) own rest = All-cons (λ k. k ≡ true) k (k ∷ flags_of ks ss) own (All-cons (λ k. k ≡ true) k (flags_of ks ss) own rest)
+    each : {T : Type 0} (xs : List T) → k ≡ true → AreAllKept (map (λ (x : T). k) xs)
+    each [] own = All-nil (λ k. k ≡ true)
+    each (x ∷ xs) own = All-cons (λ k. k ≡ true) k (map (λ y. k) xs) own (each xs own)
 
 -- the kept sentences are a problem's
 pub parts-kept : (kept : List Bool) (p : Parts) → AreParts p → AreParts (kept_parts kept p)
@@ -130,7 +138,7 @@ parts-kept kept p are = record {
   names = are.names;
   atoms = are.atoms;
   bounds =
-      subst (All (IsBound p.nodes)) (sym (bounds-kept kept p.sentences)) (each-kept (IsBound p.nodes) (flags_of kept p.sentences) (bounds_in p.sentences) are.bounds);
+      subst (All (IsBoundIn p.nodes)) (sym (bounds-kept kept p.sentences)) (each-kept (IsBoundIn p.nodes) (flags_of kept p.sentences) (bounds_in p.sentences) are.bounds);
   few_bounds =
       let same : length (bounds_in (kept_of kept p.sentences)) ≡ length (kept_of (flags_of kept p.sentences) (bounds_in p.sentences)) = ap (λ bs. length bs) (bounds-kept kept p.sentences) in
       let few = are.few_bounds in
@@ -152,15 +160,15 @@ zero_signed AtLeast y e = omega (arith, ints, e)
 zero_signed AtMost y e = omega (arith, ints, e)
 zero_signed Exactly y e = tt
 
-signs-kept : (ns : List Node) (flags : List Bool) (bs : List Bound) (ys : List ℤ) → length flags ≡ length bs → AreZeroElsewhere flags ys
-    → HaveSigns (map (bound_of ns) (kept_of flags bs)) (kept_of flags ys) → HaveSigns (map (bound_of ns) bs) ys
+signs-kept : (ns : List Node) (flags : List Bool) (rs : List Row) (ys : List ℤ) → length flags ≡ length rs → AreZeroElsewhere flags ys
+    → HaveSigns (map (row_of ns) (kept_of flags rs)) (kept_of flags ys) → HaveSigns (map (row_of ns) rs) ys
 signs-kept ns [] [] [] e off h = tt
 signs-kept ns [] [] (y ∷ ys) e off h = absurd off
-signs-kept ns [] (b ∷ bs) ys e off h = absurd (omega (arith, e))
+signs-kept ns [] (r ∷ rs) ys e off h = absurd (omega (arith, e))
 signs-kept ns (k ∷ ks) [] ys e off h = absurd (omega (arith, e))
-signs-kept ns (k ∷ ks) (b ∷ bs) [] e off h = absurd off
-signs-kept ns (true ∷ ks) (b ∷ bs) (y ∷ ys) e off h = (h.0, signs-kept ns ks bs ys (omega (arith, e)) off.1 h.1)
-signs-kept ns (false ∷ ks) (b ∷ bs) (y ∷ ys) e off h = (zero_signed b.side y (off.0 refl), signs-kept ns ks bs ys (omega (arith, e)) off.1 h)
+signs-kept ns (k ∷ ks) (r ∷ rs) [] e off h = absurd off
+signs-kept ns (true ∷ ks) (r ∷ rs) (y ∷ ys) e off h = (h.0, signs-kept ns ks rs ys (omega (arith, e)) off.1 h.1)
+signs-kept ns (false ∷ ks) (r ∷ rs) (y ∷ ys) e off h = (zero_signed r.side y (off.0 refl), signs-kept ns ks rs ys (omega (arith, e)) off.1 h)
 
 -- ---- goals
 -- weighted literals that give the same constraints
@@ -273,60 +281,54 @@ nothing_plus c = record { base = nothing_more c.base; terms = record { constant 
     nothing_more : (a : ℤ) → (pos 0 +ℤ a) ≡ a
     nothing_more a = omega (arith, ints)
 
--- a literal of weight 0 changes nothing
-node_zero : (k : ℤ) (i : ℕ) → k ≡ pos 0 → GiveSame (at_node k i) nothing
-node_zero k i e = record {
-  base = refl;
-  terms = record {
-    constant = ap (λ z. constant_of (at_node z i).terms) e;
-    at = λ p. ap (λ z. coefficient_at (at_node z i).terms p) e ∙ either (place (at_node_literal i) == p);
-  };
-}
-  where
-    at_node_literal : ℕ → ℤ
-    at_node_literal i = pos (suc i)
+times_zero : (y z : ℤ) → y ≡ pos 0 → y *ℤ z ≡ pos 0
+times_zero y z e = ap (λ x. x *ℤ z) e ∙ *ℤ_comm (pos 0) z ∙ mul-zero z
 
+-- literals of nodes are no part of the constant, and of weight 0 none of a coefficient
+constant_zero : (y : ℤ) (ts : List (ℕ × ℤ)) → constant_of (map (term_times y) ts) ≡ pos 0
+constant_zero y [] = refl
+constant_zero y (t ∷ ts) = let h = constant_zero y ts in omega (arith, ints, h)
+
+coefficient_zero : (y : ℤ) (ts : List (ℕ × ℤ)) (p : ℕ) → y ≡ pos 0 → coefficient_at (map (term_times y) ts) p ≡ pos 0
+coefficient_zero y [] p e = refl
+coefficient_zero y (t ∷ ts) p e =
+    (λ i. cond (place (pos (suc t.0)) == p) (times_zero y t.1 e i) (pos 0) +ℤ coefficient_zero y ts p e i) ∙ either (place (pos (suc t.0)) == p)
+  where
     either : (b : Bool) → (cond b (pos 0) (pos 0) +ℤ pos 0) ≡ pos 0
     either true = refl
     either false = refl
 
-condition_zero : (k : ℤ) (given : Option ℕ) → k ≡ pos 0 → GiveSame (at_condition k given) nothing
-condition_zero k None e = record { base = e; terms = record { constant = refl; at = λ p. refl } }
-condition_zero k (Some i) e = node_zero k i e
+row_zero : (y : ℤ) (r : Row) → y ≡ pos 0 → GiveSame (row_times y r) nothing
+row_zero y r e = record {
+  base = times_zero y r.base e;
+  terms = record { constant = constant_zero y r.terms; at = λ p. coefficient_zero y r.terms p e };
+}
 
-times_zero : (y : ℤ) (n : ℕ) → y ≡ pos 0 → y *ℤ pos n ≡ pos 0
-times_zero y n e = ap (λ z. z *ℤ pos n) e ∙ *ℤ_comm (pos 0) (pos n) ∙ mul-zero (pos n)
-
-row_zero : (y : ℤ) (b : Bound) → y ≡ pos 0 → GiveSame (row_times y b) nothing
-row_zero y b e =
-    plus_same (at_node (y *ℤ pos b.den) b.both) nothing (at_condition (neg_ℤ (y *ℤ pos b.num)) b.given) nothing (node_zero (y *ℤ pos b.den) b.both (times_zero y b.den e))
-    (condition_zero (neg_ℤ (y *ℤ pos b.num)) b.given (ap neg_ℤ (times_zero y b.num e)))
-
-rows_kept : (flags : List Bool) (ys : List ℤ) (bs : List Bound) → length flags ≡ length bs → AreZeroElsewhere flags ys
-    → GiveSame (rows_times ys bs) (rows_times (kept_of flags ys) (kept_of flags bs))
-rows_kept [] [] [] e off = same_self nothing
-rows_kept [] (y ∷ ys) [] e off = absurd off
-rows_kept [] ys (b ∷ bs) e off = absurd (omega (arith, e))
-rows_kept (k ∷ ks) ys [] e off = absurd (omega (arith, e))
-rows_kept (k ∷ ks) [] (b ∷ bs) e off = absurd off
-rows_kept (true ∷ ks) (y ∷ ys) (b ∷ bs) e off =
-    plus_same (row_times y b) (row_times y b) (rows_times ys bs) (rows_times (kept_of ks ys) (kept_of ks bs)) (same_self (row_times y b))
-    (rows_kept ks ys bs (omega (arith, e)) off.1)
-rows_kept (false ∷ ks) (y ∷ ys) (b ∷ bs) e off =
-    same_through (plus (row_times y b) (rows_times ys bs)) (plus nothing (rows_times (kept_of ks ys) (kept_of ks bs))) (rows_times (kept_of ks ys) (kept_of ks bs))
-    (plus_same (row_times y b) nothing (rows_times ys bs) (rows_times (kept_of ks ys) (kept_of ks bs)) (row_zero y b (off.0 refl)) (rows_kept ks ys bs (omega (arith, e)) off.1))
-    (nothing_plus (rows_times (kept_of ks ys) (kept_of ks bs)))
+times_kept : (flags : List Bool) (ys : List ℤ) (rs : List Row) → length flags ≡ length rs → AreZeroElsewhere flags ys
+    → GiveSame (rows_times ys rs) (rows_times (kept_of flags ys) (kept_of flags rs))
+times_kept [] [] [] e off = same_self nothing
+times_kept [] (y ∷ ys) [] e off = absurd off
+times_kept [] ys (r ∷ rs) e off = absurd (omega (arith, e))
+times_kept (k ∷ ks) ys [] e off = absurd (omega (arith, e))
+times_kept (k ∷ ks) [] (r ∷ rs) e off = absurd off
+times_kept (true ∷ ks) (y ∷ ys) (r ∷ rs) e off =
+    plus_same (row_times y r) (row_times y r) (rows_times ys rs) (rows_times (kept_of ks ys) (kept_of ks rs)) (same_self (row_times y r))
+    (times_kept ks ys rs (omega (arith, e)) off.1)
+times_kept (false ∷ ks) (y ∷ ys) (r ∷ rs) e off =
+    same_through (plus (row_times y r) (rows_times ys rs)) (plus nothing (rows_times (kept_of ks ys) (kept_of ks rs))) (rows_times (kept_of ks ys) (kept_of ks rs))
+    (plus_same (row_times y r) nothing (rows_times ys rs) (rows_times (kept_of ks ys) (kept_of ks rs)) (row_zero y r (off.0 refl)) (times_kept ks ys rs (omega (arith, e)) off.1))
+    (nothing_plus (rows_times (kept_of ks ys) (kept_of ks rs)))
 
 -- the goal of a dual of the whole problem is that of its kept multipliers
-pub goal-kept : (flags : List Bool) (kind : ClaimKind) (given : Option ℕ) (both : ℕ) (bs : List Bound) (d : Dual) → length flags ≡ length bs → AreZeroElsewhere flags d.rows
-    → goal_of (combination_of kind given both bs d) ≡ goal_of (combination_of kind given both (kept_of flags bs) (kept_dual flags d))
-goal-kept flags kind given both bs d e off =
-    same_goals (combination_of kind given both bs d) (combination_of kind given both (kept_of flags bs) (kept_dual flags d)) (by_kind kind)
+pub goal-kept : (flags : List Bool) (kind : ClaimKind) (given : Option ℕ) (both : ℕ) (rs : List Row) (d : Dual) → length flags ≡ length rs → AreZeroElsewhere flags d.rows
+    → goal_of (combination_of kind given both rs d) ≡ goal_of (combination_of kind given both (kept_of flags rs) (kept_dual flags d))
+goal-kept flags kind given both rs d e off =
+    same_goals (combination_of kind given both rs d) (combination_of kind given both (kept_of flags rs) (kept_dual flags d)) (by_kind kind)
   where
-    by_kind : (kind : ClaimKind) → GiveSame (combination_of kind given both bs d) (combination_of kind given both (kept_of flags bs) (kept_dual flags d))
+    by_kind : (kind : ClaimKind) → GiveSame (combination_of kind given both rs d) (combination_of kind given both (kept_of flags rs) (kept_dual flags d))
     by_kind kind =
-        plus_same (claimed_of kind given both d) (claimed_of kind given both (kept_dual flags d)) (rows_times d.rows bs) (rows_times (kept_of flags d.rows) (kept_of flags bs)) (claims_same kind)
-        (rows_kept flags d.rows bs e off)
+        plus_same (claimed_of kind given both d) (claimed_of kind given both (kept_dual flags d)) (rows_times d.rows rs) (rows_times (kept_of flags d.rows) (kept_of flags rs)) (claims_same kind)
+        (times_kept flags d.rows rs e off)
       where
         claims_same : (kind : ClaimKind) → GiveSame (claimed_of kind given both d) (claimed_of kind given both (kept_dual flags d))
         claims_same Nothing = same_self (claimed_of Nothing given both d)
@@ -338,13 +340,13 @@ pub refuted-kept : (kept : List Bool) (p : Parts) (kind : ClaimKind) (given : Op
     → IsRefuted (kept_parts kept p) kind given both (kept_dual (flags_of kept p.sentences) d) → IsRefuted p kind given both d
 refuted-kept kept p kind given both d e off h =
     let flags = flags_of kept p.sentences in
-    let long : length flags ≡ length (bounds_in p.sentences) = length-flags kept p.sentences e in
-    let bounds : bounds_in (kept_of kept p.sentences) ≡ kept_of flags (bounds_in p.sentences) = bounds-kept kept p.sentences in
+    let long : length flags ≡ length (rows_in p.sentences) = length-flags kept p.sentences e in
+    let rows : rows_in (kept_of kept p.sentences) ≡ kept_of flags (rows_in p.sentences) = rows-kept kept p.sentences in
     record {
       signs =
-          signs-kept p.nodes flags (bounds_in p.sentences) d.rows long off
-          (subst (λ (bs : List Bound). HaveSigns (map (bound_of p.nodes) bs) (kept_of flags d.rows)) bounds h.signs);
+          signs-kept p.nodes flags (rows_in p.sentences) d.rows long off
+          (subst (λ (rs : List Row). HaveSigns (map (row_of p.nodes) rs) (kept_of flags d.rows)) rows h.signs);
       steps =
-          subst (λ (c : Constraint). Refutes (length p.nodes) (first_known (form_of p.nodes) c) d.steps) (sym (goal-kept flags kind given both (bounds_in p.sentences) d long off))
-          (subst (λ (bs : List Bound). Refutes (length p.nodes) (first_known (form_of p.nodes) (goal_of (combination_of kind given both bs (kept_dual flags d)))) d.steps) bounds h.steps);
+          subst (λ (c : Constraint). Refutes (length p.nodes) (first_known (form_of p.nodes) c) d.steps) (sym (goal-kept flags kind given both (rows_in p.sentences) d long off))
+          (subst (λ (rs : List Row). Refutes (length p.nodes) (first_known (form_of p.nodes) (goal_of (combination_of kind given both rs (kept_dual flags d)))) d.steps) rows h.steps);
     }

@@ -16,6 +16,7 @@ pub mod Tight
 pub mod Weighing
 pub mod Priced
 pub mod Kept
+pub mod KeptRows
 pub mod Asked
 pub mod Reached
 pub mod Pools

@@ -6,19 +6,19 @@ use Rattle.ps_simplex.specs.declared.phase.Phase.{Phase}
 use Rattle.ps_simplex.specs.Rule.{SimplexTable, IsDueToEnd, IsMoving, IsResting}
 use Rattle.ps_table.specs.declared.col.Col.TheVariants.{Home}
 use Rattle.ps_table.specs.declared.place.WideAt.{WideAt}
-use Rattle.ps_table.specs.Tableau.{Tableau, rows_of as table_rows, entries_of, entry_at, basic_at}
+use Rattle.ps_table.specs.Tableau.{Tableau, rows_of as table_rows, entry_at, basic_at}
 use Rattle.ps_table.specs.Pricing.{cost_at}
 use Rattle.ps_table.specs.Places.{Operation, CostPlace, MultiplierPlace, WeightPlace, IsWideAt, HomePlaces}
 use Rattle.ps_table.proofs.Operations.{operation_of}
 use Rattle.ps_bland.specs.Rules.{simplex_of, IsDueToEndIn}
 use Rattle.ps_bland.specs.Ends.{IsDueWide}
-use Rattle.ps_bland.specs.DuePlaces.{DuePlace, of_slack, of_artificial}
+use Rattle.ps_bland.specs.DuePlaces.{DuePlace, WorldColumns, worlds_in, of_slack, of_artificial}
 use Rattle.ps_bland.proofs.DuePlaces.{due_there}
 use Rattle.ps_claims.specs.declared.claim_kind.ClaimKind.{ClaimKind}
 use Rattle.ps_claims.specs.declared.claim_kind.ClaimKind.TheVariants.{Nothing}
 use Rattle.ps_runs.specs.Rows.{phase_of, rows_of, columns_of}
 use Rattle.ps_runs.specs.Subjects.{Subject, setting_of, frame_of, program_of}
-use Rattle.ps_runs.specs.Runs.{Stage, table_at, entries_at, BelongsTo, IsMovingAt, IsRestingAt, IsFeasibleAt}
+use Rattle.ps_runs.specs.Runs.{Stage, table_at, worlds_at, BelongsTo, IsMovingAt, IsRestingAt, IsFeasibleAt}
 use Rattle.ps_runs.specs.Tables.{costs_for, IsRunTable, stage_at}
 use Rattle.ps_runs.specs.Licences.{DueAt, for_pivots, for_dual, for_model, IsModelDue, IsTooWide}
 use Rattle.ps_runs.proofs.Shapes.{rows_are, same_table, stands_there}
@@ -27,13 +27,13 @@ wide_as : (P Q : Operation → Type 0) (w : WideAt) → ((o : Operation) → P o
 wide_as P Q w h wide = record { at = h (operation_of w) wide.at; wide = wide.wide }
 
 -- at rest each home is due, since no column improves
-module _ (phase : Phase) (x : SimplexTable) (worlds : ℕ) (entries : ℕ → List ℤ) (left : ℕ) (cost : ℕ → Rational) (rest : IsResting phase x cost)
+module _ (phase : Phase) (x : SimplexTable) (worlds : WorldColumns) (left : ℕ) (cost : ℕ → Rational) (rest : IsResting phase x cost)
     (i : ℕ) (low : i < x.rows) (o : Operation) (at : CostPlace x.rows cost x.basic x.entry (Home i) o) where
-  due_of : (b : Bool) → x.artificial (suc i) ≡ b → DuePlace phase x worlds entries left cost o
+  due_of : (b : Bool) → x.artificial (suc i) ≡ b → DuePlace phase x worlds left cost o
   due_of true e = of_artificial i o rest.unfinished low e (λ j k. rest.none j) at
   due_of false e = of_slack i o rest.unfinished low e (λ j k. rest.none j) at
 
-  home_due : DuePlace phase x worlds entries left cost o
+  home_due : DuePlace phase x worlds left cost o
   home_due = due_of (x.artificial (suc i)) refl
 
 module _ (s : Subject) (pool : List World) (t : Tableau) (run : IsRunTable (frame_of s) pool t) where
@@ -49,8 +49,8 @@ module _ (s : Subject) (pool : List World) (t : Tableau) (run : IsRunTable (fram
   abbrev table_same : simplex_of t ≡ table_at (frame_of s) g X
   table_same = same_table (setting_of s) pool t run.kinds run.worlds
 
-  abbrev entries_same : entries_of t ≡ entries_at (frame_of s) g
-  entries_same = λ z k. get_or (run.entries z) (k - 1) []
+  abbrev worlds_same : worlds_in t ≡ worlds_at (frame_of s) g
+  worlds_same = λ z. record { count = run.worlds z; entries = λ k. get_or (run.entries z) (k - 1) [] }
 
   pub belongs_there : BelongsTo (frame_of s) g X
   belongs_there = (stands_there (setting_of s) pool t run.kinds run.worlds (columns_of (setting_of s) pool) run.stands).belongs
@@ -75,13 +75,12 @@ module _ (s : Subject) (pool : List World) (t : Tableau) (run : IsRunTable (fram
   too_wide kind left w wide = record { table = X; belongs = belongs_there; wide = wide }
 
   -- what is due in `settle` is due at the stage
-  due_as : (kind : ClaimKind) (left : ℕ) (w : WideAt) → IsWideAt (DuePlace (phase_of kind) (simplex_of t) t.worlds (entries_of t) left ((program_of kind s).cost g.pool)) w → IsTooWide (program_of kind s) g left w
+  due_as : (kind : ClaimKind) (left : ℕ) (w : WideAt) → IsWideAt (DuePlace (phase_of kind) (simplex_of t) (worlds_in t) left ((program_of kind s).cost g.pool)) w → IsTooWide (program_of kind s) g left w
   due_as kind left w wide =
-      let by_worlds = subst (λ k. IsWideAt (DuePlace (phase_of kind) (simplex_of t) k (entries_of t) left ((program_of kind s).cost g.pool)) w) run.worlds wide in
-      let by_table = subst (λ x. IsWideAt (DuePlace (phase_of kind) x (length pool) (entries_of t) left ((program_of kind s).cost g.pool)) w) table_same by_worlds in
-      let by_entries = subst (λ es. IsWideAt (DuePlace (phase_of kind) (table_at (frame_of s) g X) (length pool) es left ((program_of kind s).cost g.pool)) w) entries_same by_table in
+      let by_table = subst (λ x. IsWideAt (DuePlace (phase_of kind) x (worlds_in t) left ((program_of kind s).cost g.pool)) w) table_same wide in
+      let by_worlds = subst (λ ws. IsWideAt (DuePlace (phase_of kind) (table_at (frame_of s) g X) ws left ((program_of kind s).cost g.pool)) w) worlds_same by_table in
       too_wide kind left w
-      (wide_as (DuePlace (phase_of kind) (table_at (frame_of s) g X) (length pool) (entries_at (frame_of s) g) left ((program_of kind s).cost g.pool)) (DueAt (program_of kind s) g left X) w for_pivots by_entries)
+      (wide_as (DuePlace (phase_of kind) (table_at (frame_of s) g X) (worlds_at (frame_of s) g) left ((program_of kind s).cost g.pool)) (DueAt (program_of kind s) g left X) w for_pivots by_worlds)
 
   -- a refusal of `settle`
   pub settling_due : (kind : ClaimKind) (left : ℕ) (w : WideAt) → IsDueWide (phase_of kind) (costs_for kind (setting_of s) pool) t left w → IsTooWide (program_of kind s) g left w
@@ -93,8 +92,8 @@ module _ (s : Subject) (pool : List World) (t : Tableau) (run : IsRunTable (fram
   multiplier_due kind left i w rest l wide =
       let there : IsResting (phase_of kind) (simplex_of t) (cost_at (costs_for kind (setting_of s) pool)) = subst (λ x. IsResting (phase_of kind) x ((program_of kind s).cost g.pool)) (sym table_same) rest.resting in
       due_as kind left w
-      (wide_as (HomePlaces t (costs_for kind (setting_of s) pool) i) (DuePlace (phase_of kind) (simplex_of t) t.worlds (entries_of t) left ((program_of kind s).cost g.pool)) w
-      (λ o at. home_due (phase_of kind) (simplex_of t) t.worlds (entries_of t) left ((program_of kind s).cost g.pool) there i l o at) wide)
+      (wide_as (HomePlaces t (costs_for kind (setting_of s) pool) i) (DuePlace (phase_of kind) (simplex_of t) (worlds_in t) left ((program_of kind s).cost g.pool)) w
+      (λ o at. home_due (phase_of kind) (simplex_of t) (worlds_in t) left ((program_of kind s).cost g.pool) there i l o at) wide)
 
   -- a refusal of the whole multiples of the multipliers
   pub dual_due : (kind : ClaimKind) (left : ℕ) (w : WideAt) → IsRestingAt (program_of kind s) g X

@@ -1,4 +1,4 @@
--- The model of a feasible table is a distribution that meets the bounds, on at most as many worlds as there are rows.
+-- The model of a feasible table is a distribution that meets the rows, on at most as many worlds as the table has rows.
 use Rattle.std.proofs.Common.{◌≡◌, ◌≢◌, ℕ, zero, suc, ◌+◌, ◌<◌, ◌≤◌, ℤ, pos, ◌≤ℤ◌, neg_ℤ, Bool, true, false, cond, ltb, lt-ltb, List, [], ◌∷◌, ◌++◌, length, get_or, All, AllPairs, sym, refl, ap, ◌∙◌, subst, arith, inl, inr}
 use Rattle.std.proofs.lemmas.Int.{ints}
 use Rattle.std.proofs.lemmas.Bool.{true≢false}
@@ -16,13 +16,14 @@ use Rattle.ps_meaning.specs.Formula.{World}
 use Rattle.ps_meaning.specs.Distribution.{Entry, weight, IsDistribution}
 use Rattle.ps_meaning.specs.declared.side.Side.{Side}
 use Rattle.ps_meaning.specs.declared.side.Side.TheVariants.{AtLeast, AtMost as Most, Exactly}
-use Rattle.ps_meaning.specs.Bounds.{Compares, MeetsAll}
-use Rattle.ps_meaning.specs.Rows.{row_value, weighted_sum}
-use Rattle.ps_meaning.proofs.Rows.{weighted_sum-indicator, meets_row}
+use Rattle.ps_meaning.specs.Bounds.{Compares}
+use Rattle.ps_meaning.specs.Rows.{Row, row_in, weighted_sum}
+use Rattle.ps_meaning.proofs.Rows.{weighted_sum-indicator}
 use Rattle.ps_simplex.specs.Table.{unit_at}
 use Rattle.ps_simplex.proofs.Units.{less_one, unit_at-same, unit_at-other}
 use Rattle.ps_simplex.specs.Rule.{SimplexTable, IsFeasible}
 use Rattle.ps_problem.specs.Rows.{signed_by}
+use Rattle.ps_claims.specs.Rows.{MeetsRows}
 use Rattle.ps_runs.specs.Rows.{Setting, is_exact, entry_in, entries_of, artificial_rows, rows_of, table_of, IsTable}
 use Rattle.ps_runs.specs.Certificates.{value_of, is_above, weight_multiple, entries_to, weighted_worlds}
 use Rattle.ps_runs.proofs.Combination.{neg_out}
@@ -95,25 +96,25 @@ module _ (s : Setting) (pool : List World) (basic : ℕ → ℕ) (X : ℕ → �
       ∙ ap (λ k. mul (whole (pos big)) (sub k zero_q)) (unit_at-same 0)
       ∙ ring_q (whole (pos big) ∷ []) (by (var 0) (plus unit (minus none))) (var 0) refl)
 
-  bound_row : (i : ℕ) → i < length s.bounds → whole (weighted_sum (weighted_worlds f pool) (λ w. get_or (entries_of s w) (suc i) (pos 0))) ≡ neg (mul (whole (pos big)) (value_of f (suc (suc i))))
-  bound_row i l =
+  row_is : (i : ℕ) → i < length s.rows → whole (weighted_sum (weighted_worlds f pool) (λ w. get_or (entries_of s w) (suc i) (pos 0))) ≡ neg (mul (whole (pos big)) (value_of f (suc (suc i))))
+  row_is i l =
       row_sum (suc i) (omega arith)
       ∙ ap (λ k. mul (whole (pos big)) (sub k (value_of f (suc (suc i))))) (unit_at-other (suc i) 0 (omega arith))
       ∙ ring_q (whole (pos big) ∷ (value_of f (suc (suc i)) ∷ [])) (by (var 0) (plus none (minus (var 1)))) (minus (by (var 0) (var 1))) refl
 
-  bound_low : (i : ℕ) → i < length s.bounds → weighted_sum (weighted_worlds f pool) (λ w. get_or (entries_of s w) (suc i) (pos 0)) ≤ℤ pos 0
-  bound_low i l =
+  row_low : (i : ℕ) → i < length s.rows → weighted_sum (weighted_worlds f pool) (λ w. get_or (entries_of s w) (suc i) (pos 0)) ≤ℤ pos 0
+  row_low i l =
       let z = weighted_sum (weighted_worlds f pool) (λ w. get_or (entries_of s w) (suc i) (pos 0)) in
       let v = mul (whole (pos big)) (value_of f (suc (suc i))) in
       let up : IsNonneg v = nonneg-mul (whole (pos big)) (value_of f (suc (suc i))) (whole_nonneg (pos big) (omega (arith, ints))) (value_nonneg s pool basic X t (suc (suc i))) in
-      let e : whole (neg_ℤ z) ≡ v = sym (whole-neg z) ∙ ap neg (bound_row i l) ∙ ring_q (v ∷ []) (minus (minus (var 0))) (var 0) refl in
+      let e : whole (neg_ℤ z) ≡ v = sym (whole-neg z) ∙ ap neg (row_is i l) ∙ ring_q (v ∷ []) (minus (minus (var 0))) (var 0) refl in
       let k = nonneg_whole (neg_ℤ z) (subst IsNonneg (sym e) up) in
       omega (arith, ints, k)
 
-  bound_zero : (i : ℕ) → i < length s.bounds → IsFeasible f → get_or (artificial_rows s) (suc i) false ≡ true → weighted_sum (weighted_worlds f pool) (λ w. get_or (entries_of s w) (suc i) (pos 0)) ≡ pos 0
-  bound_zero i l feasible e =
+  row_zero : (i : ℕ) → i < length s.rows → IsFeasible f → get_or (artificial_rows s) (suc i) false ≡ true → weighted_sum (weighted_worlds f pool) (λ w. get_or (entries_of s w) (suc i) (pos 0)) ≡ pos 0
+  row_zero i l feasible e =
       whole_tells (weighted_sum (weighted_worlds f pool) (λ w. get_or (entries_of s w) (suc i) (pos 0))) (pos 0)
-      (bound_row i l ∙ ap (λ k. neg (mul (whole (pos big)) k)) (artificial_zero (suc i) feasible e) ∙ ring_q (whole (pos big) ∷ []) (minus (by (var 0) none)) none refl ∙ sym zero_is_fraction)
+      (row_is i l ∙ ap (λ k. neg (mul (whole (pos big)) k)) (artificial_zero (suc i) feasible e) ∙ ring_q (whole (pos big) ∷ []) (minus (by (var 0) none)) none refl ∙ sym zero_is_fraction)
 
   turned_sum : (side : Side) (d : List Entry) (G : World → ℤ) → weighted_sum d (λ w. signed_by side (G w)) ≡ signed_by side (weighted_sum d G)
   turned_sum AtLeast [] G = refl
@@ -129,17 +130,16 @@ module _ (s : Setting) (pool : List World) (basic : ℕ → ℕ) (X : ℕ → �
   compares Most z h e = h
   compares Exactly z h e = e refl
 
-  pub bounds_met : IsFeasible f → MeetsAll s.bounds (weighted_worlds f pool)
-  bounds_met feasible = λ i b l.
-      let c = get_or s.bounds i b in
-      let e : weighted_sum (weighted_worlds f pool) (λ w. get_or (entries_of s w) (suc i) (pos 0)) ≡ signed_by c.side (weighted_sum (weighted_worlds f pool) (row_value c)) =
-      weighted_sum-same (weighted_worlds f pool) (λ w. get_or (entries_of s w) (suc i) (pos 0)) (λ w. signed_by c.side (row_value c w)) (λ w. get_or-map (entry_in w) s.bounds i b (pos 0) l)
-      ∙ turned_sum c.side (weighted_worlds f pool) (row_value c) in
-      (meets_row c (weighted_worlds f pool)).1
-      (compares c.side (weighted_sum (weighted_worlds f pool) (row_value c)) (subst (λ z. z ≤ℤ pos 0) e (bound_low i l))
-      (λ x. sym e ∙ bound_zero i l feasible (get_or-map (λ a. is_exact a.side) s.bounds i b false l ∙ x)))
+  pub rows_met : IsFeasible f → MeetsRows s.rows (weighted_worlds f pool)
+  rows_met feasible = λ i r l.
+      let c : Row = get_or s.rows i r in
+      let e : weighted_sum (weighted_worlds f pool) (λ w. get_or (entries_of s w) (suc i) (pos 0)) ≡ signed_by c.side (weighted_sum (weighted_worlds f pool) (row_in c)) =
+      weighted_sum-same (weighted_worlds f pool) (λ w. get_or (entries_of s w) (suc i) (pos 0)) (λ w. signed_by c.side (row_in c w)) (λ w. get_or-map (entry_in w) s.rows i r (pos 0) l)
+      ∙ turned_sum c.side (weighted_worlds f pool) (row_in c) in
+      compares c.side (weighted_sum (weighted_worlds f pool) (row_in c)) (subst (λ z. z ≤ℤ pos 0) e (row_low i l))
+      (λ x. sym e ∙ row_zero i l feasible (get_or-map (λ (a : Row). is_exact a.side) s.rows i r false l ∙ x))
 
-  pub few_worlds : length (weighted_worlds f pool) ≤ suc (length s.bounds)
+  pub few_worlds : length (weighted_worlds f pool) ≤ suc (length s.rows)
   few_worlds = entries_at_most f big pool (length pool) (λ i l. row_of i)
 
   different_to : (k : ℕ) → k ≤ length pool → AllPairs (λ u v. u ≢ v) pool → AllPairs (λ (e e' : Entry). e.world ≢ e'.world) (entries_to f big pool k)

@@ -1,23 +1,24 @@
 -- Columns, homes and costs by the truth values of nodes are those of the setting.
-use Rattle.std.proofs.Common.{◌≡◌, ℕ, pos, neg_ℤ, ◌-ℤ◌, ◌*ℤ◌, Bool, true, false, cond, Option, Some, None, List, [], ◌∷◌, map, All, refl, ap, ◌∙◌}
-use Rattle.std.proofs.lemmas.List.Elements.{All-head, All-tail}
+use Rattle.std.proofs.Common.{◌≡◌, ℕ, ℤ, pos, neg_ℤ, ◌+ℤ◌, ◌*ℤ◌, Bool, true, false, cond, Option, Some, None, List, [], ◌∷◌, map, refl, sym, ap, ◌∙◌}
 use Rattle.ps_meaning.specs.declared.side.Side.{Side}
 use Rattle.ps_meaning.specs.declared.side.Side.TheVariants.{AtLeast, AtMost, Exactly}
-use Rattle.ps_meaning.specs.Formula.{World}
-use Rattle.ps_meaning.specs.Bounds as meaning
-use Rattle.ps_meaning.specs.Rows.{indicator, row_value}
+use Rattle.ps_meaning.specs.Formula.{World, is_true}
+use Rattle.ps_meaning.specs.Rows as meaning
+use Rattle.ps_meaning.specs.Rows.{indicator, terms_in, row_in}
+use Rattle.ps_meaning.proofs.Integers.{mul-zero, mul-one}
 use Rattle.ps_formula.specs.declared.node.Node.{Node}
 use Rattle.ps_formula.specs.Nodes.{truths}
 use Rattle.ps_formula.proofs.Trees.{truths-at}
-use Rattle.ps_problem.specs.declared.bound.Bound.{Bound}
+use Rattle.ps_problem.specs.declared.row.Row.{Row}
 use Rattle.ps_problem.specs.declared.query.Query as stored
-use Rattle.ps_problem.specs.Problems.{Parts, AreParts, IsBound, IsBoth, tree_at, given_at, bound_of, bounds_in}
+use Rattle.ps_problem.specs.Problems.{Parts, IsBoth, tree_at, given_at, weights_at}
 use Rattle.ps_table.specs.declared.home.Home.{Home}
 use Rattle.ps_claims.specs.declared.claim_kind.ClaimKind.{ClaimKind}
 use Rattle.ps_claims.specs.declared.claim_kind.ClaimKind.TheVariants.{Nothing, Lower, Upper}
 use Rattle.ps_claims.proofs.NodeSums.{both-indicator}
 use Rattle.ps_runs.specs.Columns as over
 use Rattle.ps_problem.specs.Rows as rows
+use Rattle.ps_problem.specs.Rows.{row_of, rows_in}
 use Rattle.ps_runs.specs.Rows.{phase_of, entry_in, entries_of, is_exact, artificial_rows, home_cost, world_cost, both_of}
 use Rattle.ps_runs.specs.Subjects.{Subject, setting_of, asked_in, given_in, both_in, IsAsked}
 use Rattle.ps_runs.specs.Rows.{home_of, homes_of}
@@ -32,37 +33,45 @@ module _ (ns : List Node) (w : World) where
   given_is None = refl
   given_is (Some i) = indicator_at i
 
-  row_is : (b : Bound) → IsBound ns b → rows.row_over (truths ns w) b ≡ row_value (bound_of ns b) w
-  row_is b is = λ i. (pos b.den *ℤ (indicator_at b.both ∙ both-indicator ns w b.formula b.given b.both is.nodes.both_is) i) -ℤ (pos b.num *ℤ given_is b.given i)
+  term_is : (t : ℕ × ℤ) → rows.term_over (truths ns w) t ≡ t.1 *ℤ indicator (tree_at ns t.0) w
+  term_is t = ap (λ b. cond b t.1 (pos 0)) (truths-at ns w t.0) ∙ by (is_true (tree_at ns t.0) w)
+    where
+      by : (b : Bool) → cond b t.1 (pos 0) ≡ t.1 *ℤ cond b (pos 1) (pos 0)
+      by true = sym (mul-one t.1)
+      by false = sym (mul-zero t.1)
 
-  entry_is : (b : Bound) → IsBound ns b → over.entry_over (truths ns w) b ≡ entry_in w (bound_of ns b)
-  entry_is b is = ap (rows.signed_by b.side) (row_is b is)
+  terms_are : (ts : List (ℕ × ℤ)) → rows.terms_over (truths ns w) ts ≡ terms_in (weights_at ns ts) w
+  terms_are [] = refl
+  terms_are (t ∷ ts) = λ i. term_is t i +ℤ terms_are ts i
 
-  entries_are : (bs : List Bound) → All (IsBound ns) bs → map (over.entry_over (truths ns w)) bs ≡ map (entry_in w) (map (bound_of ns) bs)
-  entries_are [] are = refl
-  entries_are (b ∷ bs) are = λ i. entry_is b (All-head (IsBound ns) b bs are) i ∷ entries_are bs (All-tail (IsBound ns) b bs are) i
+  row_is : (r : Row) → rows.row_over (truths ns w) r ≡ row_in (row_of ns r) w
+  row_is r = ap (λ z. r.base +ℤ z) (terms_are r.terms)
+
+  entries_are : (rs : List Row) → map (over.entry_over (truths ns w)) rs ≡ map (entry_in w) (map (row_of ns) rs)
+  entries_are [] = refl
+  entries_are (r ∷ rs) = λ i. rows.signed_by r.side (row_is r i) ∷ entries_are rs i
 
 evidence_is : (p : Parts) (q : Option stored.Query) (w : World) → rows.given_indicator (truths p.nodes w) (given_in q) ≡ indicator (asked_in p q).evidence w
 evidence_is p None w = refl
 evidence_is p (Some q) w = given_is p.nodes w q.given
 
 -- a world's column
-pub column_is : (s : Subject) (w : World) → AreParts s.parts
-    → over.column_over (truths s.parts.nodes w) (bounds_in s.parts.sentences) (given_in s.query) ≡ entries_of (setting_of s) w
-column_is s w are = λ i. evidence_is s.parts s.query w i ∷ entries_are s.parts.nodes w (bounds_in s.parts.sentences) are.bounds i
+pub column_is : (s : Subject) (w : World)
+    → over.column_over (truths s.parts.nodes w) (rows_in s.parts.sentences) (given_in s.query) ≡ entries_of (setting_of s) w
+column_is s w = λ i. evidence_is s.parts s.query w i ∷ entries_are s.parts.nodes w (rows_in s.parts.sentences) i
 
 home_is : (side : Side) → over.home_for side ≡ home_of (is_exact side)
 home_is AtLeast = refl
 home_is AtMost = refl
 home_is Exactly = refl
 
-bound_homes : (ns : List Node) (bs : List Bound) → map (λ b. over.home_for b.side) bs ≡ map home_of (map (λ (b : meaning.Bound). is_exact b.side) (map (bound_of ns) bs))
-bound_homes ns [] = refl
-bound_homes ns (b ∷ bs) = λ i. home_is b.side i ∷ bound_homes ns bs i
+row_homes : (ns : List Node) (rs : List Row) → map (λ (r : Row). over.home_for r.side) rs ≡ map home_of (map (λ (r : meaning.Row). is_exact r.side) (map (row_of ns) rs))
+row_homes ns [] = refl
+row_homes ns (r ∷ rs) = λ i. home_is r.side i ∷ row_homes ns rs i
 
 -- the homes
-pub homes_are : (s : Subject) → over.homes_over (bounds_in s.parts.sentences) ≡ homes_of (setting_of s)
-homes_are s = λ i. home_of true ∷ bound_homes s.parts.nodes (bounds_in s.parts.sentences) i
+pub homes_are : (s : Subject) → over.homes_over (rows_in s.parts.sentences) ≡ homes_of (setting_of s)
+homes_are s = λ i. home_of true ∷ row_homes s.parts.nodes (rows_in s.parts.sentences) i
 
 home_cost_is : (kind : ClaimKind) (b : Bool) → over.home_cost (phase_of kind) (home_of b) ≡ home_cost kind b
 home_cost_is Nothing true = refl

@@ -6,7 +6,8 @@ use Rattle.ps_pb.specs.Weights.{constraint_of}
 use Rattle.ps_pb.specs.Steps.{Step}
 use Rattle.ps_clause.specs.Forms.{form_of}
 use Rattle.ps_clause.specs.Extensions.{extension}
-use Rattle.ps_problem.specs.Problems.{AreParts, bounds_in}
+use Rattle.ps_problem.specs.Problems.{AreParts}
+use Rattle.ps_problem.specs.Rows.{rows_in}
 use Rattle.ps_claims.specs.declared.claim_kind.ClaimKind.{ClaimKind}
 use Rattle.ps_claims.specs.Duals.{Dual}
 use Rattle.ps_claims.specs.Goals.{value_under}
@@ -19,7 +20,7 @@ use Rattle.ps_runs.specs.Runs.{Stage, dual_at, gain_at, IsRestingAt, AreAtMost, 
 use Rattle.ps_runs.proofs.Certified.{value_of_gain, same_combination}
 
 pub same_over : (kind : ClaimKind) (s : Subject) (d e : Dual) → HaveSameNumbers d e → combination_over kind s d ≡ combination_over kind s e
-same_over kind s d e same = same_combination kind (given_in s.query) (both_in s.query) (bounds_in s.parts.sentences) d e same
+same_over kind s d e same = same_combination kind (given_in s.query) (both_in s.query) (rows_in s.parts.sentences) d e same
 
 pub same_goal : (least : ℤ) (kind : ClaimKind) (s : Subject) (d e : Dual) → HaveSameNumbers d e → goal_at_least least (program_of kind s) d ≡ goal_at_least least (program_of kind s) e
 same_goal least kind s d e same = ap (λ c. constraint_of c.terms (least -ℤ c.base)) (same_over kind s d e same)

@@ -43,13 +43,13 @@ pool_improves kind s pool basic X k t l less = record {
 pub priced_apart : (kind : ClaimKind) (s : Setting) (pool : List World) (basic : ℕ → ℕ) (X : ℕ → ℕ → Rational) (k : ℕ)
     → IsBasisTable (rows_of s) (width_of s pool) (columns_of s pool) basic X
     → IsResting (phase_of kind) (table_of s pool basic X) (cost_of kind s pool) → k < length pool
-    → pos 1 ≤ℤ combination kind s.bounds s.query (table_dual kind s (table_of s pool basic X) (cost_of kind s pool)) (get_or pool k []) → ⊥
+    → pos 1 ≤ℤ combination kind s.rows s.query (table_dual kind s (table_of s pool basic X) (cost_of kind s pool)) (get_or pool k []) → ⊥
 priced_apart kind s pool basic X k t rest l above =
     rest.none (suc (rows_of s + k)) (pool_improves kind s pool basic X k t l ((above_priced kind s (table_of s pool basic X) (cost_of kind s pool) (get_or pool k []) refl).0 (omega (arith, ints, above))))
 
 pub priced_is_new : (kind : ClaimKind) (s : Setting) (pool : List World) (basic : ℕ → ℕ) (X : ℕ → ℕ → Rational) (k : ℕ) → IsTable s pool basic X
     → IsResting (phase_of kind) (table_of s pool basic X) (cost_of kind s pool) → k < length pool
-    → pos 1 ≤ℤ combination kind s.bounds s.query (table_dual kind s (table_of s pool basic X) (cost_of kind s pool)) (get_or pool k []) → ⊥
+    → pos 1 ≤ℤ combination kind s.rows s.query (table_dual kind s (table_of s pool basic X) (cost_of kind s pool)) (get_or pool k []) → ⊥
 priced_is_new kind s pool basic X k t rest l above = priced_apart kind s pool basic X k t.stands rest l above
 
 -- costs before the new world are the same
@@ -82,7 +82,7 @@ module _ (kind : ClaimKind) (s : Setting) (pool : List World) (w : World) (basic
       (λ m l. ap (λ k. mul k (whole (get_or (entries_of s v) m (pos 0)))) (same_multiplier m l))
 
   -- the column of a priced world improves once it is there
-  pub priced_improves : pos 1 ≤ℤ combination kind s.bounds s.query (table_dual kind s (table_of s pool basic X) (cost_of kind s pool)) w
+  pub priced_improves : pos 1 ≤ℤ combination kind s.rows s.query (table_dual kind s (table_of s pool basic X) (cost_of kind s pool)) w
       → Improves (table_of s (pool ++ w ∷ []) basic Z) (cost_of kind s (pool ++ w ∷ [])) (suc (rows_of s + length pool))
   priced_improves above =
       let less : IsLess (whole (world_cost kind s w)) (price s (table_of s pool basic X) (cost_of kind s pool) w) =
@@ -98,7 +98,7 @@ module _ (kind : ClaimKind) (s : Setting) (pool : List World) (w : World) (basic
 
   -- so the table is moving
   pub priced_moves : IsResting (phase_of kind) (table_of s pool basic X) (cost_of kind s pool)
-      → pos 1 ≤ℤ combination kind s.bounds s.query (table_dual kind s (table_of s pool basic X) (cost_of kind s pool)) w
+      → pos 1 ≤ℤ combination kind s.rows s.query (table_dual kind s (table_of s pool basic X) (cost_of kind s pool)) w
       → IsMoving (phase_of kind) (table_of s (pool ++ w ∷ []) basic Z) (cost_of kind s (pool ++ w ∷ []))
   priced_moves rest above = record {
     unfinished = still_unfinished kind rest.unfinished;

@@ -10,7 +10,7 @@ use Rattle.ps_meaning.proofs.Sums.{sum_same}
 use Rattle.ps_meaning.specs.Formula.{World}
 use Rattle.ps_meaning.specs.declared.side.Side.{Side}
 use Rattle.ps_meaning.specs.declared.side.Side.TheVariants.{AtLeast, AtMost as Most, Exactly}
-use Rattle.ps_meaning.specs.Bounds.{Bound}
+use Rattle.ps_meaning.specs.Rows.{Row}
 use Rattle.ps_meaning.proofs.Integers.{mul-nonpos}
 use Rattle.ps_meaning.proofs.IntRing.{*ℤ_comm}
 use Rattle.ps_simplex.specs.Table.{carried_by, IsBasisTable}
@@ -51,24 +51,24 @@ turned_sign AtLeast p h = let k = h refl in omega (arith, ints, k)
 turned_sign Most p h = h refl
 turned_sign Exactly p h = tt
 
-signed_from : (bs : List Bound) (P : ℕ → ℤ) → ((i : ℕ) → i < length bs → get_or (map (λ b. is_exact b.side) bs) i false ≡ false → P i ≤ℤ pos 0) → HaveSigns bs (signed bs P)
+signed_from : (rs : List Row) (P : ℕ → ℤ) → ((i : ℕ) → i < length rs → get_or (map (λ r. is_exact r.side) rs) i false ≡ false → P i ≤ℤ pos 0) → HaveSigns rs (signed rs P)
 signed_from [] P h = tt
-signed_from (b ∷ bs) P h = (turned_sign b.side (P 0) (h 0 (omega arith)), signed_from bs (λ i. P (suc i)) (λ i l. h (suc i) (omega arith)))
+signed_from (r ∷ rs) P h = (turned_sign r.side (P 0) (h 0 (omega arith)), signed_from rs (λ i. P (suc i)) (λ i l. h (suc i) (omega arith)))
 
 at_most_zero : (x : Rational) → AtMost x zero_q → IsNonneg (neg x)
 at_most_zero x h = subst IsNonneg (ring_q (x ∷ []) (plus none (minus (var 0))) (minus (var 0)) refl) h
 
 signs_of : (kind : ClaimKind) (s : Setting) (pool : List World) (basic : ℕ → ℕ) (X : ℕ → ℕ → Rational) → IsResting (phase_of kind) (table_of s pool basic X) (cost_of kind s pool)
-    → HaveSigns s.bounds (signed s.bounds (λ i. whole_multiplier (table_of s pool basic X) (cost_of kind s pool) (suc i)))
+    → HaveSigns s.rows (signed s.rows (λ i. whole_multiplier (table_of s pool basic X) (cost_of kind s pool) (suc i)))
 signs_of kind s pool basic X rest =
-    signed_from s.bounds (λ i. whole_multiplier (table_of s pool basic X) (cost_of kind s pool) (suc i))
+    signed_from s.rows (λ i. whole_multiplier (table_of s pool basic X) (cost_of kind s pool) (suc i))
     (λ i l e. scaled_low (multiple_of (table_of s pool basic X) (cost_of kind s pool)) (multipliers (table_of s pool basic X) (cost_of kind s pool) (suc i))
     (at_most_zero (multipliers (table_of s pool basic X) (cost_of kind s pool) (suc i))
     (subst (AtMost (multipliers (table_of s pool basic X) (cost_of kind s pool) (suc i))) (slack_cost kind s pool (suc i) (omega arith) e)
     (resting_most (phase_of kind) (table_of s pool basic X) (cost_of kind s pool) (suc (suc i)) rest (omega arith) (omega arith) (ap (λ k. get_or (artificial_rows s) k false) (less_one (suc i)) ∙ e)))))
 
 pub rest_signs : (kind : ClaimKind) (s : Setting) (pool : List World) (basic : ℕ → ℕ) (X : ℕ → ℕ → Rational) → IsResting (phase_of kind) (table_of s pool basic X) (cost_of kind s pool)
-    → HaveSigns s.bounds (table_dual kind s (table_of s pool basic X) (cost_of kind s pool)).rows
+    → HaveSigns s.rows (table_dual kind s (table_of s pool basic X) (cost_of kind s pool)).rows
 rest_signs Nothing s pool basic X rest = signs_of Nothing s pool basic X rest
 rest_signs Lower s pool basic X rest = signs_of Lower s pool basic X rest
 rest_signs Upper s pool basic X rest = signs_of Upper s pool basic X rest

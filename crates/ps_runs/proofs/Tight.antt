@@ -7,11 +7,12 @@ use Rattle.ps_meaning.proofs.IntRing.{*ℤ_cancel, ring_z}
 use Rattle.ps_meaning.specs.Distribution.{weight}
 use Rattle.ps_simplex.specs.Rule.{IsFeasible, IsResting}
 use Rattle.ps_problem.specs.declared.query.Query as stored
-use Rattle.ps_problem.specs.Problems.{Parts}
+use Rattle.ps_problem.specs.Problems.{Parts, AreParts, bounds_of}
 use Rattle.ps_claims.specs.declared.claim_kind.ClaimKind.{ClaimKind}
 use Rattle.ps_claims.specs.declared.claim_kind.ClaimKind.TheVariants.{Nothing}
 use Rattle.ps_claims.specs.Duals.{Dual, HasValueHead}
 use Rattle.ps_claims.specs.Validity.{ShowsTight}
+use Rattle.ps_claims.proofs.ProblemRows.{problem-rows}
 use Rattle.ps_runs.specs.Programs.{RefutesGain}
 use Rattle.ps_runs.specs.Rows.{phase_of, both_of, IsTable}
 use Rattle.ps_runs.specs.Certificates.{HaveSameNumbers, weighted_worlds, table_model}
@@ -35,12 +36,12 @@ module _ (kind : ClaimKind) (p : Parts) (q : stored.Query) (g : Stage) (X : ℕ 
   abbrev s : Subject
   s = record { parts = p; query = Some q }
 
-  pub tight_at_end : kind ≢ Nothing → HaveSameNumbers d (dual_at (program_of kind s) g X) → HasValueHead value d
+  pub tight_at_end : kind ≢ Nothing → AreParts p → HaveSameNumbers d (dual_at (program_of kind s) g X) → HasValueHead value d
       → IsTable (setting_of s) g.pool g.basis X → IsFeasible (table_at (frame_of s) g X) → IsPool (atoms_of s) g.pool
       → IsResting (phase_of kind) (table_at (frame_of s) g X) ((program_of kind s).cost g.pool)
       → RefutesGain (program_of kind s) (dual_at (program_of kind s) g X) d.steps
       → ShowsTight p kind q value (table_model (table_at (frame_of s) g X) g.pool) d
-  tight_at_end side same head t feasible pooled rest steps =
+  tight_at_end side are same head t feasible pooled rest steps =
       let worlds = weighted_worlds (table_at (frame_of s) g X) g.pool in
       let numbers : d.top *ℤ weight worlds (both_of (setting_of s)) ≡ d.head *ℤ weight worlds (setting_of s).query.evidence =
       ap (λ z. z *ℤ weight worlds (both_of (setting_of s))) same.top
@@ -48,10 +49,10 @@ module _ (kind : ClaimKind) (p : Parts) (q : stored.Query) (g : Stage) (X : ℕ 
       ∙ ap (λ z. z *ℤ weight worlds (setting_of s).query.evidence) (sym same.head) in
       record {
         reached = record {
-          allowed = allowed_at_end (setting_of s) g.pool g.basis X t (atoms_of s) feasible pooled.different pooled.sized;
+          allowed = allowed_at_end (bounds_of p) (setting_of s) g.pool g.basis X (problem-rows p are) t (atoms_of s) feasible pooled.different pooled.sized;
           equal = same_ratio d.top d.head value.over (pos value.under) (weight worlds (both_of (setting_of s))) (weight worlds (setting_of s).query.evidence) head.top head.ratio numbers;
         };
-        basic = small_at_end (setting_of s) g.pool g.basis X t;
+        basic = small_at_end (bounds_of p) (setting_of s) g.pool g.basis X (problem-rows p are) t;
         head = head;
         refuted = refuted_at_rest kind s g X d same rest steps;
       }

@@ -8,7 +8,7 @@ use Rattle.ps_meaning.specs.Scaled.{scaled}
 use Rattle.ps_meaning.specs.Sums.{sum_to}
 use Rattle.ps_meaning.specs.Formula.{World}
 use Rattle.ps_meaning.specs.Distribution.{Entry, total}
-use Rattle.ps_meaning.specs.Bounds.{Bound}
+use Rattle.ps_meaning.specs.Rows.{Row}
 use Rattle.ps_simplex.specs.Rule.{SimplexTable}
 use Rattle.ps_simplex.specs.RuleLaws.{multipliers}
 use Rattle.ps_table.specs.Places as places
@@ -28,10 +28,10 @@ multiple_of t cost = places.multiple_to t.rows cost t.basic t.entry t.rows
 abbrev pub whole_multiplier : SimplexTable → (ℕ → Rational) → ℕ → ℤ
 whole_multiplier t cost m = scaled (multiple_of t cost) (multipliers t cost m)
 
--- the whole numbers of the bounds' rows, turned round at lower bounds
-abbrev pub signed : List Bound → (ℕ → ℤ) → List ℤ
+-- the whole numbers of rows, turned round at those of lower bounds
+abbrev pub signed : List Row → (ℕ → ℤ) → List ℤ
 signed [] P = []
-signed (b ∷ bs) P = signed_by b.side (P 0) ∷ signed bs (λ i. P (suc i))
+signed (r ∷ rs) P = signed_by r.side (P 0) ∷ signed rs (λ i. P (suc i))
 
 -- the head of a dual, from the whole multiplier of the evidence's row: turned round for the upper side
 abbrev pub head_of : ClaimKind → ℤ → ℤ
@@ -50,7 +50,7 @@ abbrev pub table_dual : ClaimKind → Setting → SimplexTable → (ℕ → Rati
 table_dual kind s t cost = record {
   top = top_of kind (multiple_of t cost);
   head = head_of kind (whole_multiplier t cost 0);
-  rows = signed s.bounds (λ i. whole_multiplier t cost (suc i));
+  rows = signed s.rows (λ i. whole_multiplier t cost (suc i));
   steps = [];
 }
 
@@ -62,7 +62,7 @@ pub record HaveSameNumbers (d e : Dual) : Type 0 where
 
 -- what the combination of a table's dual is in a world
 abbrev pub combination_at : ClaimKind → Setting → SimplexTable → (ℕ → Rational) → World → ℤ
-combination_at kind s t cost w = combination kind s.bounds s.query (table_dual kind s t cost) w
+combination_at kind s t cost w = combination kind s.rows s.query (table_dual kind s t cost) w
 
 -- what the multipliers make of a world's column
 abbrev pub price : Setting → SimplexTable → (ℕ → Rational) → World → Rational

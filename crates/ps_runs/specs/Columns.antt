@@ -1,36 +1,42 @@
--- The homes, the entries and the costs of a table over bounds, by the truth values of nodes.
-use Rattle.std.specs.Prelude.{ℕ, ℤ, pos, neg_ℤ, Bool, List, ◌∷◌, map, Option}
+-- The homes, the entries and the costs of a table over rows, by the truth values of nodes.
+use Rattle.std.specs.Prelude.{ℕ, ◌≤◌, ℤ, pos, neg_ℤ, Bool, List, ◌∷◌, map, All, Option}
 use Rattle.ps_meaning.specs.declared.side.Side.{Side}
 use Rattle.ps_meaning.specs.declared.side.Side.TheVariants.{AtLeast, AtMost, Exactly}
 use Rattle.ps_meaning.specs.Formula.{World}
 use Rattle.ps_formula.specs.declared.node.Node.{Node}
 use Rattle.ps_formula.specs.Nodes.{truths}
-use Rattle.ps_problem.specs.declared.bound.Bound.{Bound}
-use Rattle.ps_problem.specs.Rows.{indicator_of, given_indicator, row_over, signed_by}
+use Rattle.ps_problem.specs.declared.row.Row.{Row}
+use Rattle.ps_problem.specs.declared.limits.TheConstants.{MOST_SIZES}
+use Rattle.ps_problem.specs.Rows.{HasTerm, row_size, indicator_of, given_indicator, row_over, signed_by}
 use Rattle.ps_table.specs.declared.home.Home.{Home}
 use Rattle.ps_table.specs.declared.home.Home.TheVariants.{Slack, Artificial}
 use Rattle.ps_simplex.specs.declared.phase.Phase.{Phase}
 use Rattle.ps_simplex.specs.declared.phase.Phase.TheVariants.{One, Lower, Upper}
 
 -- ---- columns of worlds
--- a bound's entry in a world's column
-abbrev pub entry_over : List Bool → Bound → ℤ
-entry_over values b = signed_by b.side (row_over values b)
+-- the nodes of a row have values, and its numbers are within their limit
+pub record HasValues (values : List Bool) (r : Row) : Type 0 where
+  pub nodes : All (HasTerm values) r.terms
+  pub small : row_size r ≤ MOST_SIZES
 
--- the column of a world: whether the evidence is true in it, and the entry of each bound's row
-abbrev pub column_over : List Bool → List Bound → Option ℕ → List ℤ
-column_over values bounds evidence = given_indicator values evidence ∷ map (entry_over values) bounds
+-- a row's entry in a world's column
+abbrev pub entry_over : List Bool → Row → ℤ
+entry_over values r = signed_by r.side (row_over values r)
+
+-- the column of a world: whether the evidence is true in it, and the entry of each row
+abbrev pub column_over : List Bool → List Row → Option ℕ → List ℤ
+column_over values rows evidence = given_indicator values evidence ∷ map (entry_over values) rows
 
 -- ---- homes
--- the home of a bound's row: an equation has no slack
+-- the home of a row: an equation has no slack
 abbrev pub home_for : Side → Home
 home_for AtLeast = Slack
 home_for AtMost = Slack
 home_for Exactly = Artificial
 
--- the homes of the rows: that of row 0 is artificial, and each bound has a row
-abbrev pub homes_over : List Bound → List Home
-homes_over bounds = Artificial ∷ map (λ b. home_for b.side) bounds
+-- the homes: that of row 0 is artificial, and behind it is that of each row
+abbrev pub homes_over : List Row → List Home
+homes_over rows = Artificial ∷ map (λ r. home_for r.side) rows
 
 -- ---- costs
 -- phase one makes the artificials as small as it can

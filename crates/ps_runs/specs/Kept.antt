@@ -1,8 +1,7 @@
 -- Runs over some of a problem's sentences: a run over them is one of the problem that has them alone.
-use Rattle.std.specs.Prelude.{◌≡◌, Bool, true, Option, Some, None, List, [], ◌∷◌, length, All}
-use Rattle.ps_problem.specs.declared.bound.Bound.{Bound}
+use Rattle.std.specs.Prelude.{◌≡◌, Bool, true, List, [], ◌∷◌, ◌++◌, length, map, All}
 use Rattle.ps_problem.specs.declared.sentence.Sentence.{Sentence}
-use Rattle.ps_problem.specs.Problems.{Parts, parts_of}
+use Rattle.ps_problem.specs.Problems.{Parts, parts_of, bounds_of_sentence}
 use Rattle.ps_claims.specs.Duals.{Dual}
 pub use Rattle.ps_claims.specs.Duals.{kept_of}
 
@@ -10,11 +9,7 @@ pub use Rattle.ps_claims.specs.Duals.{kept_of}
 abbrev pub flags_of : List Bool → List Sentence → List Bool
 flags_of [] ss = []
 flags_of (k ∷ ks) [] = []
-flags_of (k ∷ ks) (s ∷ ss) = k ∷ with_second s.second k (flags_of ks ss)
-  where
-    with_second : Option Bound → Bool → List Bool → List Bool
-    with_second None k flags = flags
-    with_second (Some b) k flags = k ∷ flags
+flags_of (k ∷ ks) (s ∷ ss) = map (λ b. k) (bounds_of_sentence s) ++ flags_of ks ss
 
 -- the problem with these sentences in place of its own
 abbrev pub with_sentences : Parts → List Sentence → Parts

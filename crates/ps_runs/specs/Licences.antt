@@ -1,5 +1,5 @@
 -- When a part may be open: the pivots are used up, a search was spent, or a number is too wide at a place that is due.
-use Rattle.std.specs.Prelude.{◌≡◌, ℕ, pos, List, length}
+use Rattle.std.specs.Prelude.{◌≡◌, ℕ, pos, List}
 use Rattle.ps_meaning.specs.Rational.{Rational}
 use Rattle.ps_simplex.specs.declared.phase.Phase.TheVariants.{One, Lower, Upper}
 use Rattle.ps_pb.specs.Constraints.{Constraint}
@@ -12,7 +12,7 @@ use Rattle.ps_answer.specs.declared.answer.Cause.TheVariants.{Pivots, Conflicts,
 use Rattle.ps_runs.specs.declared.limits.Limits.{Limits}
 use Rattle.ps_runs.specs.Searches.{IsSpentSearch}
 use Rattle.ps_runs.specs.Programs.{Program, goal_at_least}
-use Rattle.ps_runs.specs.Runs.{Stage, table_at, entries_at, dual_at}
+use Rattle.ps_runs.specs.Runs.{Stage, table_at, worlds_at, dual_at}
 use Rattle.ps_runs.specs.Runs.{BelongsTo, IsMovingAt, IsRestingAt, IsFeasibleAt, AreAtMost}
 
 -- a model is due: phase one is due to end, or a side rests and no world is priced above 0
@@ -27,7 +27,7 @@ IsModelDue p g X = elim p.phase [
 -- the multipliers; where a model is due, for its weights
 pub data DueAt (p : Program) (g : Stage) (left : ℕ) (X : ℕ → ℕ → Rational) : Operation → Type 0 where
   for_pivots : (o : Operation)
-      → DuePlace p.phase (table_at p.frame g X) (length g.pool) (entries_at p.frame g) left (p.cost g.pool) o
+      → DuePlace p.phase (table_at p.frame g X) (worlds_at p.frame g) left (p.cost g.pool) o
       → DueAt p g left X o
   for_dual : (o : Operation) → IsRestingAt p g X
       → MultiplierPlace p.frame.rows (p.cost g.pool) g.basis X o → DueAt p g left X o

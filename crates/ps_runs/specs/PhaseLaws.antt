@@ -7,7 +7,8 @@ use Rattle.ps_pb.specs.Steps.{Step}
 use Rattle.ps_clause.specs.Forms.{form_of}
 use Rattle.ps_simplex.specs.Rule.{IsFeasible, IsMoving, IsResting}
 use Rattle.ps_formula.specs.Nodes.{truths}
-use Rattle.ps_problem.specs.Problems.{Parts, AreParts, bounds_in}
+use Rattle.ps_problem.specs.Problems.{Parts}
+use Rattle.ps_problem.specs.Rows.{rows_in}
 use Rattle.ps_table.specs.declared.home.Home.{Home}
 use Rattle.ps_table.specs.declared.costs.Costs.{Costs}
 use Rattle.ps_runs.specs.Columns.{column_over, homes_over, home_cost, cost_over, costs_over}
@@ -167,9 +168,9 @@ CostsGrow = (kind : ClaimKind) (s : Setting) (pool : List World) (w : World)
 
 -- columns, homes and costs by the truth values of a problem's nodes are those of the setting
 pub record NodesGiveTheSetting : Type 0 where
-  pub column : (s : Subject) (w : World) → AreParts s.parts
-      → column_over (truths s.parts.nodes w) (bounds_in s.parts.sentences) (given_in s.query) ≡ entries_of (setting_of s) w
-  pub homes : (s : Subject) → homes_over (bounds_in s.parts.sentences) ≡ homes_of (setting_of s)
+  pub column : (s : Subject) (w : World)
+      → column_over (truths s.parts.nodes w) (rows_in s.parts.sentences) (given_in s.query) ≡ entries_of (setting_of s) w
+  pub homes : (s : Subject) → homes_over (rows_in s.parts.sentences) ≡ homes_of (setting_of s)
   pub cost : (kind : ClaimKind) (s : Subject) (w : World) → IsAsked kind s.parts s.query
       → cost_over (phase_of kind) (both_in s.query) (truths s.parts.nodes w) ≡ world_cost kind (setting_of s) w
   pub costs : (kind : ClaimKind) (s : Subject) (pool : List World) (kinds : List Home) → IsAsked kind s.parts s.query

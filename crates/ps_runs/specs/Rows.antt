@@ -1,12 +1,11 @@
--- The rows and columns of a run: what its bounds and its query make of each world.
+-- The rows and columns of a run: what its bounds' rows and its query make of each world.
 use Rattle.std.specs.Prelude.{ℕ, suc, ◌-◌, ℤ, pos, neg_ℤ, Bool, true, false, cond}
 use Rattle.std.specs.Prelude.{List, [], ◌∷◌, ◌++◌, map, length, get_or, ◌+◌, ◌<◌}
 use Rattle.std.proofs.Common.{leb}
 use Rattle.ps_meaning.specs.Formula.{World, Formula, And}
 use Rattle.ps_meaning.specs.declared.side.Side.{Side}
 use Rattle.ps_meaning.specs.declared.side.Side.TheVariants.{AtLeast, AtMost, Exactly}
-use Rattle.ps_meaning.specs.Bounds.{Bound}
-use Rattle.ps_meaning.specs.Rows.{indicator, row_value}
+use Rattle.ps_meaning.specs.Rows.{Row, indicator, row_in}
 use Rattle.ps_meaning.specs.Rational.{Rational, fraction}
 use Rattle.ps_meaning.specs.Order.{IsNonneg}
 use Rattle.ps_simplex.specs.Table.{unit_at, IsBasisTable}
@@ -21,10 +20,9 @@ use Rattle.ps_claims.specs.Queries.{Query}
 use Rattle.ps_claims.specs.declared.claim_kind.ClaimKind.{ClaimKind}
 use Rattle.ps_claims.specs.declared.claim_kind.ClaimKind.TheVariants.{Nothing, Lower, Upper}
 
--- what rows and columns are made of: the bounds that a distribution is to meet, and the query, whose evidence is to weigh
--- something
+-- what a table is made of: the rows that a distribution is to meet, and the query, whose evidence is to weigh something
 pub record Setting : Type 0 where
-  pub bounds : List Bound
+  pub rows : List Row
   pub query : Query
 
 -- formula and evidence of the query together
@@ -38,13 +36,13 @@ phase_of Lower = phase.Lower
 phase_of Upper = phase.Upper
 
 -- ---- columns
--- a bound's entry in a world's column
-abbrev pub entry_in : World → Bound → ℤ
-entry_in w b = signed_by b.side (row_value b w)
+-- a row's entry in a world's column
+abbrev pub entry_in : World → Row → ℤ
+entry_in w r = signed_by r.side (row_in r w)
 
--- a world's column: whether the evidence is true in it, and its entry of each bound's row
+-- a world's column: whether the evidence is true in it, and its entry of each row
 abbrev pub entries_of : Setting → World → List ℤ
-entries_of s w = indicator s.query.evidence w ∷ map (entry_in w) s.bounds
+entries_of s w = indicator s.query.evidence w ∷ map (entry_in w) s.rows
 
 -- whether a side states an equation, whose row needs no slack
 abbrev pub is_exact : Side → Bool
@@ -54,7 +52,7 @@ is_exact Exactly = true
 
 -- whether the home of each row is artificial: it is in row 0, which says that the evidence weighs 1, and in an equation's
 abbrev pub artificial_rows : Setting → List Bool
-artificial_rows s = true ∷ map (λ b. is_exact b.side) s.bounds
+artificial_rows s = true ∷ map (λ r. is_exact r.side) s.rows
 
 -- the kind of a home: artificial, else a slack
 abbrev pub home_of : Bool → Home
@@ -65,9 +63,9 @@ home_of false = Slack
 abbrev pub homes_of : Setting → List Home
 homes_of s = map home_of (artificial_rows s)
 
--- how many rows there are: one for the evidence, and one for each bound
+-- how many rows a table has: one for the evidence, and one for each bound
 abbrev pub rows_of : Setting → ℕ
-rows_of s = suc (length s.bounds)
+rows_of s = suc (length s.rows)
 
 -- the number in row m and column j: the columns are the right side, the homes, and the worlds of the pool
 abbrev pub columns_of : Setting → List World → ℕ → ℕ → Rational

@@ -6,6 +6,7 @@ use Rattle.ps_meaning.specs.Order.{IsLess, IsNonneg}
 use Rattle.ps_meaning.specs.Sums.{int_sum_to}
 use Rattle.ps_meaning.specs.Formula.{World}
 use Rattle.ps_meaning.specs.Distribution.{total, weight}
+use Rattle.ps_meaning.specs.Bounds.{Bound}
 use Rattle.ps_simplex.specs.Table.{IsFirst, Widened}
 use Rattle.ps_simplex.specs.Rule.{SimplexTable, IsFeasible, IsMoving, IsResting}
 use Rattle.ps_table.specs.declared.event.Event.{Event}
@@ -14,8 +15,10 @@ use Rattle.ps_pb.specs.Steps.{Step}
 use Rattle.ps_clause.specs.Forms.{form_of, MeetsForm}
 use Rattle.ps_clause.specs.Extensions.{extension}
 use Rattle.ps_problem.specs.declared.query.Query as stored
-use Rattle.ps_problem.specs.Problems.{Parts, AreParts, bounds_in, bounds_of}
+use Rattle.ps_problem.specs.Problems.{Parts, AreParts, bounds_of}
+use Rattle.ps_problem.specs.Rows.{rows_in}
 use Rattle.ps_claims.specs.Queries.{IsAllowed}
+use Rattle.ps_claims.specs.Rows.{AreRowsOf}
 use Rattle.ps_claims.specs.Answers.{IsBasicModel, ShowsConsistent}
 use Rattle.ps_claims.specs.declared.claim_kind.ClaimKind.{ClaimKind}
 use Rattle.ps_claims.specs.declared.claim_kind.ClaimKind.TheVariants.{Nothing, Lower, Upper}
@@ -45,14 +48,16 @@ pub record CombinationsArePrices : Type 0 where
   pub above : (kind : ClaimKind) (s : Setting) (t : SimplexTable) (cost : ℕ → Rational) (w : World) → t.rows ≡ rows_of s
       → (pos 0 <ℤ combination_at kind s t cost w) ↔ IsLess (whole (world_cost kind s w)) (price s t cost w)
 
--- where each basic artificial has value 0 the weighted worlds of the table are a distribution that the query allows, of at most
--- one world more than there are bounds, with the sum of its weights as total
+-- where each basic artificial has value 0 the weighted worlds of a table of some bounds' rows are a distribution that the query
+-- allows, of at most one world more than there are bounds, with the sum of its weights as total
 pub record FeasibleTablesGiveModels : Type 0 where
-  pub allowed : (s : Setting) (pool : List World) (basic : ℕ → ℕ) (X : ℕ → ℕ → Rational) (atoms : ℕ) → IsTable s pool basic X
+  pub allowed : (bounds : List Bound) (s : Setting) (pool : List World) (basic : ℕ → ℕ) (X : ℕ → ℕ → Rational) (atoms : ℕ)
+      → AreRowsOf bounds s.rows → IsTable s pool basic X
       → IsFeasible (table_of s pool basic X) → IsPool atoms pool
-      → IsAllowed atoms s.bounds s.query.evidence (weighted_worlds (table_of s pool basic X) pool)
-  pub small : (s : Setting) (pool : List World) (basic : ℕ → ℕ) (X : ℕ → ℕ → Rational) → IsTable s pool basic X
-      → IsBasicModel s.bounds (table_model (table_of s pool basic X) pool)
+      → IsAllowed atoms bounds s.query.evidence (weighted_worlds (table_of s pool basic X) pool)
+  pub small : (bounds : List Bound) (s : Setting) (pool : List World) (basic : ℕ → ℕ) (X : ℕ → ℕ → Rational)
+      → AreRowsOf bounds s.rows → IsTable s pool basic X
+      → IsBasicModel bounds (table_model (table_of s pool basic X) pool)
   pub total : (s : Setting) (pool : List World) (basic : ℕ → ℕ) (X : ℕ → ℕ → Rational) → IsTable s pool basic X
       → int_sum_to (rows_of s) (weight_at (rows_of s) basic X) ≡ total (weighted_worlds (table_of s pool basic X) pool)
 
@@ -61,7 +66,7 @@ pub record FeasibleTablesGiveModels : Type 0 where
 pub record RestingTablesGiveDuals : Type 0 where
   pub signs : (kind : ClaimKind) (s : Setting) (pool : List World) (basic : ℕ → ℕ) (X : ℕ → ℕ → Rational)
       → IsResting (phase_of kind) (table_of s pool basic X) (cost_of kind s pool)
-      → HaveSigns s.bounds (table_dual kind s (table_of s pool basic X) (cost_of kind s pool)).rows
+      → HaveSigns s.rows (table_dual kind s (table_of s pool basic X) (cost_of kind s pool)).rows
   pub head : (s : Setting) (pool : List World) (basic : ℕ → ℕ) (X : ℕ → ℕ → Rational) → IsTable s pool basic X
       → (IsFeasible (table_of s pool basic X) → ⊥)
       → HasNothingHead (table_dual Nothing s (table_of s pool basic X) (cost_of Nothing s pool))
@@ -128,7 +133,7 @@ pub record ReachedStages : Type 0 where
 pub record GainsAreValues : Type 0 where
   pub value : (kind : ClaimKind) (s : Subject) (d : Dual) (w : World) → AreParts s.parts → IsAsked kind s.parts s.query
       → value_under (extension s.parts.nodes w) (combination_over kind s d)
-      ≡ combination kind (setting_of s).bounds (setting_of s).query d w
+      ≡ combination kind (setting_of s).rows (setting_of s).query d w
   pub most : (kind : ClaimKind) (s : Subject) (g : Stage) (X : ℕ → ℕ → Rational) (most : ℤ) → AreParts s.parts
       → IsAsked kind s.parts s.query
       → ((v : List Bool) → MeetsForm v (form_of s.parts.nodes)
@@ -151,14 +156,15 @@ pub record EndsAreValid : Type 0 where
       → RefutesGain (program_of Nothing s) (dual_at (program_of Nothing s) g X) d.steps
       → ShowsNothing s.parts (given_in s.query) d
   pub tight : (kind : ClaimKind) (p : Parts) (q : stored.Query) (g : Stage) (X : ℕ → ℕ → Rational) (value : Rational)
-      (d : Dual) → kind ≢ Nothing
+      (d : Dual) → kind ≢ Nothing → AreParts p
       → HaveSameNumbers d (dual_at (program_of kind (subject_of p q)) g X) → HasValueHead value d
       → IsTable (setting_of (subject_of p q)) g.pool g.basis X → IsFeasible (table_at (frame_of (subject_of p q)) g X)
       → IsPool (length p.names) g.pool
       → IsResting (phase_of kind) (table_at (frame_of (subject_of p q)) g X) ((program_of kind (subject_of p q)).cost g.pool)
       → RefutesGain (program_of kind (subject_of p q)) (dual_at (program_of kind (subject_of p q)) g X) d.steps
       → ShowsTight p kind q value (table_model (table_at (frame_of (subject_of p q)) g X) g.pool) d
-  pub consistent : (s : Subject) (g : Stage) (X : ℕ → ℕ → Rational) → IsTable (setting_of s) g.pool g.basis X
+  pub consistent : (s : Subject) (g : Stage) (X : ℕ → ℕ → Rational) → AreParts s.parts
+      → IsTable (setting_of s) g.pool g.basis X
       → IsFeasible (table_at (frame_of s) g X)
       → IsPool (atoms_of s) g.pool
       → ShowsConsistent (atoms_of s) (bounds_of s.parts) (table_model (table_at (frame_of s) g X) g.pool)
@@ -204,12 +210,12 @@ pub record PricingsAreOfTheTable : Type 0 where
       → RefutesGain (program_of kind s) d e.steps
       → IsDualAt (program_of kind s) g e
 
--- the kept sentences of a problem in order make one in order, and their bounds are the kept ones; all of them are the whole
+-- the kept sentences of a problem in order make one in order, and their rows are the kept ones; all of them are the whole
 -- problem; and a dual that is refuted over them is so over the whole problem, where it has 0 at the other bounds
 pub record KeptSentences : Type 0 where
   pub parts : (kept : List Bool) (p : Parts) → AreParts p → AreParts (kept_parts kept p)
-  pub bounds : (kept : List Bool) (p : Parts)
-      → bounds_in (kept_parts kept p).sentences ≡ kept_of (flags_of kept p.sentences) (bounds_in p.sentences)
+  pub rows : (kept : List Bool) (p : Parts)
+      → rows_in (kept_parts kept p).sentences ≡ kept_of (flags_of kept p.sentences) (rows_in p.sentences)
   pub all : (kept : List Bool) (p : Parts) → IsChoice kept p → AreAllKept kept → kept_parts kept p ≡ p
   pub refuted : (kept : List Bool) (p : Parts) (kind : ClaimKind) (given : Option ℕ) (both : ℕ) (d : Dual) → IsChoice kept p
       → AreZeroElsewhere (flags_of kept p.sentences) d.rows

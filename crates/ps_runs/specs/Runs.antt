@@ -12,6 +12,7 @@ use Rattle.ps_table.specs.declared.col.Col.{Col}
 use Rattle.ps_table.specs.declared.event.Event.{Event}
 use Rattle.ps_table.specs.declared.event.Event.TheVariants.{Pivot, Priced}
 use Rattle.ps_table.specs.Tableau.{number_in, IsInside}
+use Rattle.ps_bland.specs.DuePlaces.{WorldColumns}
 use Rattle.ps_claims.specs.Answers.{Model}
 use Rattle.ps_claims.specs.Duals.{Dual}
 use Rattle.ps_runs.specs.Programs.{Frame, Program, goal_at_least}
@@ -38,9 +39,9 @@ pub record IsPool (atoms : ℕ) (pool : List World) : Type 0 where
 abbrev pub table_at : Frame → Stage → (ℕ → ℕ → Rational) → SimplexTable
 table_at f g X = simplex_table (f.system g.pool) (suc (f.rows + length g.pool)) g.basis X
 
--- the entries of a world of the stage's pool, by its number from 1
-abbrev pub entries_at : Frame → Stage → ℕ → List ℤ
-entries_at f g k = get_or (map f.entries g.pool) (k - 1) []
+-- the columns of the worlds of the stage's pool
+abbrev pub worlds_at : Frame → Stage → WorldColumns
+worlds_at f g = record { count = length g.pool; entries = λ k. get_or (map f.entries g.pool) (k - 1) [] }
 
 -- the dual of a table at the stage
 abbrev pub dual_at : Program → Stage → (ℕ → ℕ → Rational) → Dual

@@ -3,13 +3,15 @@ use Rattle.std.specs.Prelude.{Option, Some, None, ◌≡◌, ℕ, length}
 use Rattle.ps_meaning.specs.Formula.{Truth}
 use Rattle.ps_clause.specs.Forms.{form_of}
 use Rattle.ps_problem.specs.declared.query.Query as stored
-use Rattle.ps_problem.specs.Problems.{Parts, HasNodes, bounds_in, bounds_of}
+use Rattle.ps_problem.specs.Problems.{Parts, HasNodes}
+use Rattle.ps_problem.specs.Rows.{rows_in}
 use Rattle.ps_claims.specs.Queries.{Query}
 use Rattle.ps_claims.specs.declared.claim_kind.ClaimKind.{ClaimKind}
 use Rattle.ps_claims.specs.declared.claim_kind.ClaimKind.TheVariants.{Nothing}
 use Rattle.ps_claims.specs.Duals.{Dual, combination}
 use Rattle.ps_claims.specs.declared.weighted_sum.Combination.{Combination}
 use Rattle.ps_claims.specs.Goals.{combination_of}
+use Rattle.ps_claims.specs.Rows.{problem_rows}
 use Rattle.ps_claims.specs.Validity.{query_of}
 use Rattle.ps_runs.specs.Rows.{Setting, phase_of, rows_of, homes_of, entries_of, system_of, cost_of}
 use Rattle.ps_runs.specs.Certificates.{table_dual}
@@ -33,9 +35,9 @@ abbrev pub asked_in : Parts → Option stored.Query → Query
 asked_in p None = record { formula = Truth; evidence = Truth }
 asked_in p (Some q) = query_of p.nodes q
 
--- its bounds and its query
+-- the rows of its bounds and its query
 abbrev pub setting_of : Subject → Setting
-setting_of s = record { bounds = bounds_of s.parts; query = asked_in s.parts s.query }
+setting_of s = record { rows = problem_rows s.parts; query = asked_in s.parts s.query }
 
 -- the node of a query's evidence; none where there is no query, or no evidence
 abbrev pub given_in : Option stored.Query → Option ℕ
@@ -58,10 +60,10 @@ IsAsked kind p (Some q) = HasNodes p.nodes q.formula q.given q.both
 
 -- the combination of a dual over the problem's nodes
 abbrev pub combination_over : ClaimKind → Subject → Dual → Combination
-combination_over kind s d = combination_of kind (given_in s.query) (both_in s.query) (bounds_in s.parts.sentences) d
+combination_over kind s d = combination_of kind (given_in s.query) (both_in s.query) (rows_in s.parts.sentences) d
 
 -- ---- programs
--- the rows and columns of bounds and a query
+-- the rows and columns of a setting
 abbrev pub frame_over : Setting → Frame
 frame_over x = record { rows = rows_of x; homes = homes_of x; entries = entries_of x; system = system_of x }
 
@@ -77,7 +79,7 @@ program_of kind s = record {
   phase = phase_of kind;
   cost = cost_of kind (setting_of s);
   dual = table_dual kind (setting_of s);
-  gain = combination kind (setting_of s).bounds (setting_of s).query;
+  gain = combination kind (setting_of s).rows (setting_of s).query;
   form = form_of s.parts.nodes;
   combined = combination_over kind s;
 }

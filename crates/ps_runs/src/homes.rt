@@ -3,28 +3,28 @@ ghost use Rattle.std.specs.Prelude.{◌≡◌, IfOk};
 ghost use Rattle.ps_runs.specs.Columns.{home_for, homes_over};
 
 use ps_io::NoMemory;
-use ps_problem::{Bound, Side};
+use ps_problem::{Row, Side};
 use ps_table::Home;
 use std::alloc::Global;
 
-/// The home of a bound's row: an equation has no slack.
-fn home_of(bound: &Bound) -> Home
-    ensures { result ≡ home_for bound.now.side }
+/// The home of a row: an equation has no slack.
+fn home_of(row: &Row) -> Home
+    ensures { result ≡ home_for row.now.side }
 {
-    match bound.side {
+    match row.side {
         Side::AtLeast | Side::AtMost => Home::Slack,
         Side::Exactly => Home::Artificial,
     }
 }
 
-/// The homes of the rows: that of row 0 is artificial, and each bound has a row.
-pub fn homes_of(alloc: Global, bounds: &[Bound]) -> Result<Vec<Home>, NoMemory>
-    ensures { IfOk result (λ v. v.items ≡ homes_over bounds.now) }
+/// The homes: that of row 0 is artificial, and behind it is that of each row.
+pub fn homes_of(alloc: Global, rows: &[Row]) -> Result<Vec<Home>, NoMemory>
+    ensures { IfOk result (λ v. v.items ≡ homes_over rows.now) }
 {
     let mut homes = Vec::new(alloc);
     homes.push(Home::Artificial)?;
-    for bound in bounds {
-        homes.push(home_of(bound))?;
+    for row in rows {
+        homes.push(home_of(row))?;
     }
     Ok(homes)
 }

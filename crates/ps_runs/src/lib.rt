@@ -1,4 +1,4 @@
-//! Runs of the column generation: the rows and columns over bounds and a query, which events are
+//! Runs of the column generation: the rows and columns of bounds and a query, which events are
 //! lawful, and the certificates that tables give.
 //!
 //! The phases of a run over the solver's tables: the homes, the columns of worlds and their costs;
@@ -14,6 +14,7 @@ mod homes;
 mod limits;
 mod phase_laws;
 mod pivot_limit;
+mod rows;
 mod run_laws;
 mod state;
 
@@ -23,6 +24,7 @@ pub use homes::homes_of;
 pub use limits::Limits;
 pub use phase_laws::{lawful_ends, licences, node_columns, phases_go_on, run_tables};
 pub use pivot_limit::enough;
+pub use rows::kept_rows;
 pub use run_laws::{
     composed_runs, gains, kept_sentences, phase_ends, phase_starts, priced_worlds, reached_stages,
     reduced_costs, valid_ends,

@@ -1,25 +1,16 @@
 ghost use Rattle.std.specs.Prelude.{IsTrue};
 ghost use Rattle.ps_generation.specs.Models.{AreApart};
 
+use crate::rows::lower_row;
 use crate::tables::{adds, are_values_at_least_zero, has_costs, pivots};
 use ps_answer::{Dual, Model, Weighted};
 use ps_claims::ClaimKind;
 use ps_formula::World;
 use ps_generation::{Weights, dual_of, model_of, weights_of};
 use ps_io::List;
-use ps_problem::{Bound, Side};
 use ps_table::{Col, CostList, Costs, Home, Pool, Table};
 use std::alloc::Global;
 use std::test::*;
-
-const BOUND: Bound = Bound {
-    formula: 0,
-    given: None,
-    both: 0,
-    side: Side::AtLeast,
-    num: 1,
-    den: 2,
-};
 
 // The worlds' truth values, and their columns.
 const WORLDS: [([bool; 2], [i64; 2]); 3] = [
@@ -118,7 +109,8 @@ fn found_dual(alloc: Global) -> Option<Dual> {
     if table.rows() != 2 || !has_costs(&table, &costs) {
         return None;
     }
-    dual_of(alloc, &[BOUND], ClaimKind::Lower, &table, &costs).ok()
+    let lower = lower_row(alloc).ok()?;
+    dual_of(alloc, &[lower], ClaimKind::Lower, &table, &costs).ok()
 }
 
 #[test]

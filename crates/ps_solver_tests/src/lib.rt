@@ -28,6 +28,8 @@ mod problems;
 #[cfg(test)]
 mod query;
 #[cfg(test)]
+mod rows;
+#[cfg(test)]
 mod table;
 #[cfg(test)]
 mod tables;

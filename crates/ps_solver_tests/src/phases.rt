@@ -1,21 +1,11 @@
-use ps_problem::{Bound, Side};
+use crate::rows::lower_row;
 use ps_runs::{column_of, homes_of, world_cost};
 use ps_simplex::Phase;
 use ps_table::Home;
 use std::alloc::Global;
 use std::test::*;
 
-// `P(a given b) >= 1/4` over the nodes `a`, `b` and `a & b`.
-const BOUND: Bound = Bound {
-    formula: 0,
-    given: Some(1),
-    both: 2,
-    side: Side::AtLeast,
-    num: 1,
-    den: 4,
-};
-
-// Truth values of the nodes, whether the evidence `b` is true, and the bound's entry:
+// Truth values of the nodes, whether the evidence `b` is true, and the row's entry:
 // -4*[a & b] + [b].
 const COLUMNS: [([bool; 3], i64, i64); 3] = [
     ([true, true, true], 1, -3),
@@ -35,8 +25,12 @@ fn is_cost(row: &(Phase, bool, i8)) -> bool {
     world_cost(row.0, 0, &[row.1]) == row.2
 }
 
+#[tactic(auto, using(crate::proofs::LowerRow::has_values))]
 fn is_column(alloc: Global, row: &([bool; 3], i64, i64)) -> bool {
-    match column_of(alloc, &row.0, &[BOUND], Some(1)) {
+    let Ok(lower) = lower_row(alloc) else {
+        return false;
+    };
+    match column_of(alloc, &row.0, &[lower], Some(1)) {
         Ok(column) => column.len() == 2 && column[0] == row.1 && column[1] == row.2,
         Err(_) => false,
     }
@@ -51,13 +45,19 @@ fn columns_are_of_their_world(rt: HostRuntime) -> Result<(), Fail> {
     Ok(())
 }
 
-#[test]
-fn homes_are_of_their_side(rt: HostRuntime) -> Result<(), Fail> {
-    let right = match homes_of(rt.alloc(), &[BOUND]) {
+fn are_homes(alloc: Global) -> bool {
+    let Ok(lower) = lower_row(alloc) else {
+        return false;
+    };
+    match homes_of(alloc, &[lower]) {
         Ok(homes) => homes.len() == 2 && homes[0] == Home::Artificial && homes[1] == Home::Slack,
         Err(_) => false,
-    };
-    assert!(rt; right);
+    }
+}
+
+#[test]
+fn homes_are_of_their_side(rt: HostRuntime) -> Result<(), Fail> {
+    assert!(rt; are_homes(rt.alloc()));
     Ok(())
 }
 

@@ -35,7 +35,7 @@ fn priced(alloc: Global, problem: &Problem, first: i128) -> Result<Pricing, NoMe
         return Err(NoMemory);
     }
     let pricer = Pricer::new(alloc, problem, &[true, true], None, 20_000)?;
-    if pricer.bounds().len() != 2 {
+    if pricer.rows().len() != 2 {
         return Err(NoMemory);
     }
     pricer.price(alloc, ClaimKind::Nothing, dual)

@@ -32,7 +32,7 @@ pub enum Clash {
 }
 
 /// Writes the sentence of a number, from 1; nothing where there is none.
-#[tactic(auto, using(crate::proofs::ClashLists::formula_there, crate::proofs::ClashLists::given_there))]
+#[tactic(auto, using(crate::proofs::ClashLists::sentence_there))]
 pub(crate) fn write_sentence(
     alloc: Global,
     out: &mut Vec<u8>,

@@ -3,10 +3,10 @@ use Rattle.std.proofs.Common.{◌≡◌, ℕ, suc, zero, ◌<◌, ◌≤◌, Boo
 use Rattle.std.proofs.lemmas.Bool.Decides.{nat_tests}
 use Rattle.std.specs.Prelude.{◌==◌, IsTrue}
 use Rattle.std.specs.List.{AllByRecursion}
-use Rattle.ps_text.specs.Tokens.{One, Token, Word, Number, Sign, Whole, Quotient, Decimal, Symbol, Open, Close, OpenBracket, CloseBracket, Comma, Semicolon, Bang, Ampersand, Bar, Arrow, DoubleArrow, Equals, GreaterEquals, LessEquals, is_letter, is_digit, is_word_byte, IsWord, AreDigits, IsToken, spelling, symbol_spelling, BeginsNone}
+use Rattle.ps_text.specs.Tokens.{Token, Word, Number, Sign, Whole, Quotient, Decimal, Symbol, Open, Close, OpenBracket, CloseBracket, Comma, Semicolon, Bang, Ampersand, Bar, Arrow, DoubleArrow, Equals, GreaterEquals, LessEquals, Plus, Minus, is_letter, is_digit, is_word_byte, IsWord, AreDigits, IsToken, spelling, symbol_spelling, BeginsNone}
 use Rattle.ps_text.specs.Pieces.{Piece, Blank, Comment, Spelled, text, texts, is_blank, EndsLine, Fits, IsBad, Cut}
-use Rattle.ps_text.proofs.Spans.{starts, starts_behind, both, same_byte}
-use Rattle.ps_text.proofs.Symbols.{symbol_some}
+use Rattle.ps_text.proofs.Spans.{starts, starts_behind, refute, both, same_byte}
+use Rattle.ps_text.proofs.Symbols.{SymbolStops, symbol_some}
 use Rattle.ps_text.proofs.Longest.{stops_longest}
 
 pub decide : (b : Bool) → (b ≡ true) ⊎ (b ≡ false)
@@ -34,7 +34,7 @@ pub record Next (bytes : List ℕ) : Type 0 where
   pub after : List ℕ
   pub is : bytes ≡ text piece ++ after
   pub some : length after < length bytes
-  pub fits : Fits One piece after
+  pub fits : Fits piece after
 
 shorter : (b : ℕ) (bs front rest : List ℕ) → bs ≡ front ++ rest → length rest < length (b ∷ bs)
 shorter b bs front rest e = let a = ap length e in let c = length-append front rest in omega arith
@@ -54,7 +54,7 @@ word_next b bs h = let s = span is_word_byte bs in
       after = s.rest;
       is = ap (λ x. b ∷ x) s.is;
       some = shorter b bs s.front s.rest s.is;
-      fits = ((h, s.all), stops_longest One (Word (b ∷ s.front)) s.rest (h, s.all) s.stop);
+      fits = ((h, s.all), stops_longest (Word (b ∷ s.front)) s.rest (h, s.all) s.stop);
     }
 
 -- a separator and a digit
@@ -81,7 +81,7 @@ quotient_next b bs h s r = let m = span is_digit r.more in
       after = m.rest;
       is = ap (λ x. b ∷ x) e;
       some = shorter b bs (s.front ++ 47 ∷ r.digit ∷ m.front) m.rest e;
-      fits = (((h, s.all), (r.is_one, m.all)), stops_longest One (Number (Quotient (b ∷ s.front) (r.digit ∷ m.front))) m.rest ((h, s.all), (r.is_one, m.all)) m.stop);
+      fits = (((h, s.all), (r.is_one, m.all)), stops_longest (Number (Quotient (b ∷ s.front) (r.digit ∷ m.front))) m.rest ((h, s.all), (r.is_one, m.all)) m.stop);
     }
 
 decimal_next : (b : ℕ) (bs : List ℕ) → is_digit b ≡ true → (s : Span is_digit bs) → Behind 46 s.rest → Next (b ∷ bs)
@@ -93,7 +93,7 @@ decimal_next b bs h s r = let m = span is_digit r.more in
       after = m.rest;
       is = ap (λ x. b ∷ x) e;
       some = shorter b bs (s.front ++ 46 ∷ r.digit ∷ m.front) m.rest e;
-      fits = (((h, s.all), (r.is_one, m.all)), stops_longest One (Number (Decimal (b ∷ s.front) (r.digit ∷ m.front))) m.rest ((h, s.all), (r.is_one, m.all)) m.stop);
+      fits = (((h, s.all), (r.is_one, m.all)), stops_longest (Number (Decimal (b ∷ s.front) (r.digit ∷ m.front))) m.rest ((h, s.all), (r.is_one, m.all)) m.stop);
     }
 
 number_next : (b : ℕ) (bs : List ℕ) → is_digit b ≡ true → Next (b ∷ bs)
@@ -106,7 +106,7 @@ number_next b bs h = let s = span is_digit bs in elim (decide (starts_behind 47 
       after = s.rest;
       is = ap (λ x. b ∷ x) s.is;
       some = shorter b bs s.front s.rest s.is;
-      fits = ((h, s.all), stops_longest One (Number (Whole (b ∷ s.front))) s.rest (h, s.all) (s.stop, q, d));
+      fits = ((h, s.all), stops_longest (Number (Whole (b ∷ s.front))) s.rest (h, s.all) (s.stop, q, d));
     }
   ]
 ]
@@ -130,8 +130,8 @@ front (c ∷ w) (b ∷ bs) = elim (decide (b == c)) [
     other : (b c : ℕ) → (b == c) ≡ false → b ≡ c → ⊥
     other b c h e = grind (arith, nat_tests)
 
-symbol_next : (bytes : List ℕ) (s : Symbol) → Fronts (symbol_spelling s) bytes → Next bytes
-symbol_next bytes s f = record { piece = Spelled (Sign s); after = f.after; is = f.is; some = some s f; fits = (refl, stops_longest One (Sign s) f.after refl tt) }
+symbol_next : (bytes : List ℕ) (s : Symbol) (f : Fronts (symbol_spelling s) bytes) → SymbolStops s f.after → Next bytes
+symbol_next bytes s f k = record { piece = Spelled (Sign s); after = f.after; is = f.is; some = some s f; fits = (tt, stops_longest (Sign s) f.after tt k) }
   where
     some : (s : Symbol) (f : Fronts (symbol_spelling s) bytes) → length f.after < length bytes
     some s f = let e = ap length f.is in let a = length-append (symbol_spelling s) f.after in let p = symbol_some s in omega arith
@@ -140,52 +140,68 @@ symbol_next bytes s f = record { piece = Spelled (Sign s); after = f.after; is =
 abbrev pub NoSymbol : List ℕ → Type 0
 NoSymbol bytes = (s : Symbol) → Fronts (symbol_spelling s) bytes → ⊥
 
+-- a `-` that begins no `->` ends there
+minus_stops : (bytes : List ℕ) (f : Fronts (symbol_spelling Minus) bytes) → (Fronts (symbol_spelling Arrow) bytes → ⊥) → SymbolStops Minus f.after
+minus_stops bytes f n = by f.after f.is
+  where
+    by : (after : List ℕ) → bytes ≡ symbol_spelling Minus ++ after → starts (λ b. b == 62) after ≡ false
+    by [] e = refl
+    by (b ∷ bs) e = refute (b == 62) (λ h. n (record { after = bs; is = e ∙ ap (λ x. 45 ∷ x ∷ bs) (same_byte b 62 h) }))
+
 -- a symbol stands at the front, or none does
 symbol_or : (bytes : List ℕ) → Next bytes ⊎ NoSymbol bytes
 symbol_or bytes =
     elim (front (symbol_spelling Open) bytes) [
-      | inl f ↦ inl (symbol_next bytes Open f)
+      | inl f ↦ inl (symbol_next bytes Open f tt)
       | inr n0 ↦
           elim (front (symbol_spelling Close) bytes) [
-            | inl f ↦ inl (symbol_next bytes Close f)
+            | inl f ↦ inl (symbol_next bytes Close f tt)
             | inr n1 ↦
                 elim (front (symbol_spelling OpenBracket) bytes) [
-                  | inl f ↦ inl (symbol_next bytes OpenBracket f)
+                  | inl f ↦ inl (symbol_next bytes OpenBracket f tt)
                   | inr n2 ↦
                       elim (front (symbol_spelling CloseBracket) bytes) [
-                        | inl f ↦ inl (symbol_next bytes CloseBracket f)
+                        | inl f ↦ inl (symbol_next bytes CloseBracket f tt)
                         | inr n3 ↦
                             elim (front (symbol_spelling Comma) bytes) [
-                              | inl f ↦ inl (symbol_next bytes Comma f)
+                              | inl f ↦ inl (symbol_next bytes Comma f tt)
                               | inr n4 ↦
                                   elim (front (symbol_spelling Semicolon) bytes) [
-                                    | inl f ↦ inl (symbol_next bytes Semicolon f)
+                                    | inl f ↦ inl (symbol_next bytes Semicolon f tt)
                                     | inr n5 ↦
                                         elim (front (symbol_spelling Bang) bytes) [
-                                          | inl f ↦ inl (symbol_next bytes Bang f)
+                                          | inl f ↦ inl (symbol_next bytes Bang f tt)
                                           | inr n6 ↦
                                               elim (front (symbol_spelling Ampersand) bytes) [
-                                                | inl f ↦ inl (symbol_next bytes Ampersand f)
+                                                | inl f ↦ inl (symbol_next bytes Ampersand f tt)
                                                 | inr n7 ↦
                                                     elim (front (symbol_spelling Bar) bytes) [
-                                                      | inl f ↦ inl (symbol_next bytes Bar f)
+                                                      | inl f ↦ inl (symbol_next bytes Bar f tt)
                                                       | inr n8 ↦
                                                           elim (front (symbol_spelling Arrow) bytes) [
-                                                            | inl f ↦ inl (symbol_next bytes Arrow f)
+                                                            | inl f ↦ inl (symbol_next bytes Arrow f tt)
                                                             | inr n9 ↦
                                                                 elim (front (symbol_spelling DoubleArrow) bytes) [
-                                                                  | inl f ↦ inl (symbol_next bytes DoubleArrow f)
+                                                                  | inl f ↦ inl (symbol_next bytes DoubleArrow f tt)
                                                                   | inr n10 ↦
                                                                       elim (front (symbol_spelling Equals) bytes) [
-                                                                        | inl f ↦ inl (symbol_next bytes Equals f)
+                                                                        | inl f ↦ inl (symbol_next bytes Equals f tt)
                                                                         | inr n11 ↦
                                                                             elim (front (symbol_spelling GreaterEquals) bytes) [
-                                                                              | inl f ↦ inl (symbol_next bytes GreaterEquals f)
+                                                                              | inl f ↦ inl (symbol_next bytes GreaterEquals f tt)
                                                                               | inr n12 ↦
                                                                                   elim (front (symbol_spelling LessEquals) bytes) [
-                                                                                    | inl f ↦ inl (symbol_next bytes LessEquals f)
+                                                                                    | inl f ↦ inl (symbol_next bytes LessEquals f tt)
                                                                                     | inr n13 ↦
-                                                                                        inr (none n0 n1 n2 n3 n4 n5 n6 n7 n8 n9 n10 n11 n12 n13)
+                                                                                        elim (front (symbol_spelling Plus) bytes) [
+                                                                                          | inl f ↦ inl (symbol_next bytes Plus f tt)
+                                                                                          | inr n14 ↦
+                                                                                              elim (front (symbol_spelling Minus) bytes) [
+                                                                                                | inl f ↦ inl (symbol_next bytes Minus f (minus_stops bytes f n9))
+                                                                                                | inr n15 ↦
+                                                                                                    inr (none n0 n1 n2 n3 n4 n5 n6 n7 n8 n9 n10 n11 n12 n13 n14 n15)
+                                                                                              ]
+                                                                                        ]
                                                                                   ]
                                                                             ]
                                                                       ]
@@ -201,25 +217,30 @@ symbol_or bytes =
           ]
     ]
   where
-    none : (Fronts (symbol_spelling Open) bytes → ⊥) → (Fronts (symbol_spelling Close) bytes → ⊥) → (Fronts (symbol_spelling OpenBracket) bytes → ⊥)
-        → (Fronts (symbol_spelling CloseBracket) bytes → ⊥) → (Fronts (symbol_spelling Comma) bytes → ⊥) → (Fronts (symbol_spelling Semicolon) bytes → ⊥)
-        → (Fronts (symbol_spelling Bang) bytes → ⊥) → (Fronts (symbol_spelling Ampersand) bytes → ⊥) → (Fronts (symbol_spelling Bar) bytes → ⊥)
-        → (Fronts (symbol_spelling Arrow) bytes → ⊥) → (Fronts (symbol_spelling DoubleArrow) bytes → ⊥) → (Fronts (symbol_spelling Equals) bytes → ⊥)
-        → (Fronts (symbol_spelling GreaterEquals) bytes → ⊥) → (Fronts (symbol_spelling LessEquals) bytes → ⊥) → NoSymbol bytes
-    none a b c d e f g h i j k l m n Open = a
-    none a b c d e f g h i j k l m n Close = b
-    none a b c d e f g h i j k l m n OpenBracket = c
-    none a b c d e f g h i j k l m n CloseBracket = d
-    none a b c d e f g h i j k l m n Comma = e
-    none a b c d e f g h i j k l m n Semicolon = f
-    none a b c d e f g h i j k l m n Bang = g
-    none a b c d e f g h i j k l m n Ampersand = h
-    none a b c d e f g h i j k l m n Bar = i
-    none a b c d e f g h i j k l m n Arrow = j
-    none a b c d e f g h i j k l m n DoubleArrow = k
-    none a b c d e f g h i j k l m n Equals = l
-    none a b c d e f g h i j k l m n GreaterEquals = m
-    none a b c d e f g h i j k l m n LessEquals = n
+    none : (Fronts (symbol_spelling Open) bytes → ⊥) → (Fronts (symbol_spelling Close) bytes → ⊥)
+        → (Fronts (symbol_spelling OpenBracket) bytes → ⊥) → (Fronts (symbol_spelling CloseBracket) bytes → ⊥)
+        → (Fronts (symbol_spelling Comma) bytes → ⊥) → (Fronts (symbol_spelling Semicolon) bytes → ⊥)
+        → (Fronts (symbol_spelling Bang) bytes → ⊥) → (Fronts (symbol_spelling Ampersand) bytes → ⊥)
+        → (Fronts (symbol_spelling Bar) bytes → ⊥) → (Fronts (symbol_spelling Arrow) bytes → ⊥)
+        → (Fronts (symbol_spelling DoubleArrow) bytes → ⊥) → (Fronts (symbol_spelling Equals) bytes → ⊥)
+        → (Fronts (symbol_spelling GreaterEquals) bytes → ⊥) → (Fronts (symbol_spelling LessEquals) bytes → ⊥)
+        → (Fronts (symbol_spelling Plus) bytes → ⊥) → (Fronts (symbol_spelling Minus) bytes → ⊥) → NoSymbol bytes
+    none a b c d e f g h i j k l m n o p Open = a
+    none a b c d e f g h i j k l m n o p Close = b
+    none a b c d e f g h i j k l m n o p OpenBracket = c
+    none a b c d e f g h i j k l m n o p CloseBracket = d
+    none a b c d e f g h i j k l m n o p Comma = e
+    none a b c d e f g h i j k l m n o p Semicolon = f
+    none a b c d e f g h i j k l m n o p Bang = g
+    none a b c d e f g h i j k l m n o p Ampersand = h
+    none a b c d e f g h i j k l m n o p Bar = i
+    none a b c d e f g h i j k l m n o p Arrow = j
+    none a b c d e f g h i j k l m n o p DoubleArrow = k
+    none a b c d e f g h i j k l m n o p Equals = l
+    none a b c d e f g h i j k l m n o p GreaterEquals = m
+    none a b c d e f g h i j k l m n o p LessEquals = n
+    none a b c d e f g h i j k l m n o p Plus = o
+    none a b c d e f g h i j k l m n o p Minus = p
 
 word_first : (b : ℕ) (bs w more : List ℕ) → IsWord w → b ∷ bs ≡ w ++ more → is_letter b ≡ true
 word_first b bs [] more i e = absurd i
@@ -229,11 +250,11 @@ digits_first : (b : ℕ) (bs w more : List ℕ) → AreDigits w → b ∷ bs ≡
 digits_first b bs [] more i e = absurd i
 digits_first b bs (x ∷ xs) more i e = let same : b ≡ x = cc in rw same i.0
 
-begins_none : (b : ℕ) (bs : List ℕ) → is_letter b ≡ false → is_digit b ≡ false → NoSymbol (b ∷ bs) → BeginsNone One (b ∷ bs)
+begins_none : (b : ℕ) (bs : List ℕ) → is_letter b ≡ false → is_digit b ≡ false → NoSymbol (b ∷ bs) → BeginsNone (b ∷ bs)
 unfolding BeginsNone
 begins_none b bs l d n = none
   where
-    none : (u : Token) (more : List ℕ) → IsToken One u → b ∷ bs ≡ spelling u ++ more → ⊥
+    none : (u : Token) (more : List ℕ) → IsToken u → b ∷ bs ≡ spelling u ++ more → ⊥
     none (Word w) more i e = let h = word_first b bs w more i e in absurd cc
     none (Number (Whole w)) more i e = let h = digits_first b bs w more i e in absurd cc
     none (Number (Quotient w v)) more i e = let h = digits_first b bs w (47 ∷ v ++ more) i.0 (e ∙ append_assoc w (47 ∷ v) more) in absurd cc
@@ -265,7 +286,7 @@ cut_more bytes n c = record {
   pieces = n.piece ∷ c.pieces;
   rest = c.rest;
   is = n.is ∙ ap (λ x. text n.piece ++ x) c.is ∙ sym (append_assoc (text n.piece) (texts c.pieces) c.rest);
-  cuts = (subst (λ x. Fits One n.piece x) c.is n.fits, c.cuts);
+  cuts = (subst (λ x. Fits n.piece x) c.is n.fits, c.cuts);
   ends = c.ends;
 }
 

@@ -5,8 +5,8 @@ use Rattle.ps_text.specs.declared.part.Part.{Part}
 use Rattle.ps_text.specs.declared.part.Part.TheVariants as part
 use Rattle.ps_text.specs.ExpectedTokens.{State, outside, Passes, AreExpected}
 use Rattle.ps_text.specs.Grammar.{IsDerived}
-use Rattle.ps_text.specs.PartialParses.{Parse, InPsat, InVersion, InHeadEnd, InItem, InQueryProb, InTextEnd, InDone, InParen, InOperand, InOperator, InRelation, InBracket, InFirst, InNumber, InComma, InSecond, InBracketEnd, InItemEnd, state_of, parsed_tokens, IsExtendedBy, IsParse, parsed, TakesToken}
-use Rattle.ps_text.proofs.Steps.{Passed, passed, at_psat, at_version, at_head_end, at_item, at_query_prob, at_text_end, at_paren, at_relation, at_number, at_bracket, at_first, at_comma, at_second, at_bracket_end, at_item_end}
+use Rattle.ps_text.specs.PartialParses.{Parse, InPsat, InVersion, InHeadEnd, InItem, InQueryProb, InTextEnd, InDone, InTerm, InTermProb, InParen, InOperand, InOperator, InRelation, InBracket, InFirst, InNumber, InComma, InSecond, InBracketEnd, InItemEnd, state_of, parsed_tokens, IsExtendedBy, IsParse, parsed, TakesToken}
+use Rattle.ps_text.proofs.Steps.{Passed, passed, at_psat, at_version, at_head_end, at_item, at_query_prob, at_text_end, at_term, at_term_prob, at_paren, at_relation, at_number, at_bracket, at_first, at_comma, at_second, at_bracket_end, at_item_end}
 use Rattle.ps_text.proofs.FormulaSteps.{at_operand, at_operator}
 
 -- one token more that isn't refused
@@ -16,20 +16,22 @@ steps p t s h = by p s (passed (state_of p) t h)
     by : (p : Parse) → IsParse p → Passed (state_of p) t → IsExtendedBy p t
     by InPsat s h = at_psat t h
     by InVersion s h = at_version t h
-    by InHeadEnd s h = at_head_end t h
+    by (InHeadEnd v) s h = at_head_end v t h
     by (InItem es) s h = at_item es t s h
     by (InQueryProb es) s h = at_query_prob es t s h
     by (InTextEnd es) s h = at_text_end es t s h
     by (InDone es) s h = absurd (true≢false (sym h.expected))
+    by (InTerm es ts m) s h = at_term es ts m t s h
+    by (InTermProb es ts m x) s h = at_term_prob es ts m x t s h
     by (InParen es q) s h = at_paren es q t s h
     by (InOperand es q c fs) s h = at_operand es q c fs t s h
     by (InOperator es q c fs f) s h = at_operator es q c fs f t s h
     by (InRelation es p) s h = at_relation es p t s h
     by (InBracket es p) s h = at_bracket es p t s h
-    by (InFirst es p) s h = at_first es p t s h
-    by (InNumber es p x) s h = at_number es p x t s h
+    by (InFirst es p m) s h = at_first es p m t s h
+    by (InNumber es p x m) s h = at_number es p x m t s h
     by (InComma es p x) s h = at_comma es p x t s h
-    by (InSecond es p x) s h = at_second es p x t s h
+    by (InSecond es p x m) s h = at_second es p x m t s h
     by (InBracketEnd es p x y) s h = at_bracket_end es p x y t s h
     by (InItemEnd es e) s h = at_item_end es e t s h
 
@@ -59,19 +61,21 @@ ends : (p : Parse) (ts : List Token) → is_end (state_of p).part ≡ true → p
 ends (InDone es) ts e r s = record { written = es; tokens = sym r; within = s }
 ends InPsat ts e r s = absurd (true≢false (sym e))
 ends InVersion ts e r s = absurd (true≢false (sym e))
-ends InHeadEnd ts e r s = absurd (true≢false (sym e))
+ends (InHeadEnd v) ts e r s = absurd (true≢false (sym e))
 ends (InItem es) ts e r s = absurd (true≢false (sym e))
 ends (InQueryProb es) ts e r s = absurd (true≢false (sym e))
 ends (InTextEnd es) ts e r s = absurd (true≢false (sym e))
+ends (InTerm es us m) ts e r s = absurd (true≢false (sym e))
+ends (InTermProb es us m x) ts e r s = absurd (true≢false (sym e))
 ends (InParen es q) ts e r s = absurd (true≢false (sym e))
 ends (InOperand es q c fs) ts e r s = absurd (true≢false (sym e))
 ends (InOperator es q c fs f) ts e r s = absurd (true≢false (sym e))
 ends (InRelation es p) ts e r s = absurd (true≢false (sym e))
 ends (InBracket es p) ts e r s = absurd (true≢false (sym e))
-ends (InFirst es p) ts e r s = absurd (true≢false (sym e))
-ends (InNumber es p x) ts e r s = absurd (true≢false (sym e))
+ends (InFirst es p m) ts e r s = absurd (true≢false (sym e))
+ends (InNumber es p x m) ts e r s = absurd (true≢false (sym e))
 ends (InComma es p x) ts e r s = absurd (true≢false (sym e))
-ends (InSecond es p x) ts e r s = absurd (true≢false (sym e))
+ends (InSecond es p x m) ts e r s = absurd (true≢false (sym e))
 ends (InBracketEnd es p x y) ts e r s = absurd (true≢false (sym e))
 ends (InItemEnd es e') ts e r s = absurd (true≢false (sym e))
 

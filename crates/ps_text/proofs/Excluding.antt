@@ -1,7 +1,8 @@
 -- A text and a refusal exclude each other, and so do two refusals.
 use Rattle.std.proofs.Common.{◌≡◌, ℕ, inl, inr, List, [], ◌∷◌, ◌++◌, length, Some, None, is_some, sym, ap, subst, ◌∙◌, true≢false}
 use Rattle.ps_meaning.specs.Statements.{Item}
-use Rattle.ps_text.specs.Tokens.{One, Token, IsToken, BeginsNone, spelling}
+use Rattle.ps_text.specs.declared.version.Version.{Version}
+use Rattle.ps_text.specs.Tokens.{Token, IsToken, BeginsNone, spelling}
 use Rattle.ps_text.specs.Pieces.{Spelled, texts, tokens}
 use Rattle.ps_text.specs.Grammar.{ItemSyntax, AreWellFormedItems}
 use Rattle.ps_text.specs.Fronts.{IsTextFront}
@@ -31,7 +32,7 @@ next-passes d e f (u ∷ ts) more t p q = next-passes (after d u) e f ts more t 
 nothing_behind : (t : Token) → refusal (outside part.Done) t ≡ None → ⊥
 nothing_behind t h = true≢false (sym (passed (outside part.Done) t h).expected)
 
-none_begins : (bytes more : List ℕ) (u : Token) → BeginsNone One bytes → IsToken One u → bytes ≡ spelling u ++ more → ⊥
+none_begins : (bytes more : List ℕ) (u : Token) → BeginsNone bytes → IsToken u → bytes ≡ spelling u ++ more → ⊥
 unfolding BeginsNone
 none_begins bytes more u n i e = n u more i e
 
@@ -95,8 +96,8 @@ refusal_once bytes k l n m r s = by (order r.pieces s.pieces r.rest s.rest r.cut
 pub one_derivation : (tokens : List Token) → HasOneDerivation tokens
 one_derivation tokens = record { same = λ es fs i j e f. text_once es fs i j (sym e ∙ f) }
 
-pub one_meaning : (written : List ItemSyntax) → AreWellFormedItems written → HaveOneMeaning written
-one_meaning written h = record { same = λ is js i j. items_once written is js h i j }
+pub one_meaning : (v : Version) (written : List ItemSyntax) → AreWellFormedItems v written → HaveOneMeaning written
+one_meaning v written h = record { same = λ is js i j. items_once v written is js h i j }
 
 pub one_front : (bytes : List ℕ) → HasOneFront bytes
 one_front bytes = record { meaning = meaning_once bytes; place = front_place bytes }

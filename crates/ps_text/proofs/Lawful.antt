@@ -1,22 +1,24 @@
 -- What is read is lawful: its canonical text means it too.
 use Rattle.std.proofs.Common.{◌≡◌, ℕ, ◌*◌, ◌^◌, ◌<◌, ◌≤◌, zero, suc, Bool, true, ◌&&◌, List, [], ◌∷◌, ◌++◌, length, Option, Some, None, refl, sym, ap, subst, ◌∙◌, arith}
-use Rattle.std.proofs.Math.Nat.{one-dvd, mul-dvd-mul_right, dvd_of_mul-dvd-mul_right, pow-le-pow_right}
+use Rattle.std.proofs.Math.Nat.{mul_assoc, one-dvd, mul-dvd-mul_right, dvd_of_mul-dvd-mul_right, pow-le-pow_right}
 use Rattle.std.specs.Prelude.{codes}
 use Rattle.std.specs.List.{AllByRecursion, list_all}
 use Rattle.std.specs.Int.{IsGcd, ◌∣◌}
 use Rattle.ps_meaning.specs.declared.side.Side.{Side}
-use Rattle.ps_meaning.specs.Statements.{Ratio, Item, Stated, Asked}
+use Rattle.ps_meaning.specs.Statements as meaning
+use Rattle.ps_meaning.specs.Statements.{Ratio, SignedRatio, size_of, Summand, LinearStatement, Item, Stated, Asked}
 use Rattle.ps_meaning.specs.Names.{is_word}
-use Rattle.ps_text.specs.declared.limits.TheConstants.{GREATEST_DENOMINATOR, MOST_DECIMALS}
-use Rattle.ps_text.specs.Tokens.{One, Token, Word, Sign, Numeral, Whole, Quotient, Decimal, Close, Semicolon, Ampersand, Bar, Arrow, DoubleArrow, is_word_byte, IsWord, IsToken}
+use Rattle.ps_text.specs.declared.limits.TheConstants.{GREATEST_DENOMINATOR, MOST_DECIMALS, GREATEST_NUMBER, MOST_TERMS}
+use Rattle.ps_text.specs.declared.version.Version.{Version}
+use Rattle.ps_text.specs.Tokens.{Token, Word, Sign, Numeral, Whole, Quotient, Decimal, Close, Semicolon, Ampersand, Bar, Arrow, DoubleArrow, is_word_byte, IsWord, IsToken}
 use Rattle.ps_text.specs.Pieces.{Piece, Blank, Comment, Spelled, Cuts, tokens}
-use Rattle.ps_text.specs.Grammar.{FormulaSyntax, Name, Truth, Falsity, Not, Group, And, Or, Implies, Iff, spelled, IsWellFormed, Prob, Relation, Exactly, AtLeast, AtMost, Within, ItemSyntax, Sentence, Query, given_tokens, prob_tokens, relation_tokens, item_tokens, items_tokens, text_tokens, IsProbability, IsGiven, IsProb, IsRelation, IsWellFormedItem, AreWellFormedItems}
-use Rattle.ps_text.specs.Meanings.{formula_of, given_of, ratio_of, IsValue, States, IsItem, AreItems}
+use Rattle.ps_text.specs.Grammar.{FormulaSyntax, Name, Truth, Falsity, Not, Group, And, Or, Implies, Iff, spelled, IsWellFormed, Prob, Relation, Exactly, AtLeast, AtMost, Within, Term, SignedRelation, ItemSyntax, Sentence, Linear, Query, alone, given_tokens, prob_tokens, relation_tokens, minus_tokens, coefficient_tokens, term_tokens, further_tokens, terms_tokens, signed_relation_tokens, item_tokens, items_tokens, text_tokens, IsNumberUpTo, IsWeight, IsGiven, IsProb, IsRelation, IsSignedRelation, IsTerm, AreTerms, IsLinear, IsLinearItem, IsWellFormedItem, AreWellFormedItems}
+use Rattle.ps_text.specs.Meanings.{formula_of, given_of, ratio_of, IsValue, States, IsSignedValue, StatesSum, coefficient_of, IsSummand, AreSummands, IsLinearStatement, IsItem, AreItems}
 use Rattle.ps_text.specs.Fronts.{IsFront}
-use Rattle.ps_text.specs.Canonical.{HasNames, IsWritable, IsWritableGiven, IsReduced, IsUpper, IsLawfulItem, AreLawful}
+use Rattle.ps_text.specs.Canonical.{HasNames, IsWritable, IsWritableGiven, IsReducedUpTo, IsReduced, IsReducedWeight, IsUpper, IsSumUpper, AreWritable, IsLawfulSum, IsLawfulItem, AreLawful}
 use Rattle.ps_text.proofs.Spans.{Passes}
 use Rattle.ps_text.proofs.Nesting.{read_nests}
-use Rattle.ps_text.proofs.Meant.{divisor_some, denominator_some}
+use Rattle.ps_text.proofs.Meant.{divisor_some, denominator_some, coefficient_within}
 
 -- values
 
@@ -46,41 +48,40 @@ coprime m n a b g some h e f = (
 pub tens_few : (n : ℕ) → n ≤ MOST_DECIMALS → 10 ^ n ≤ GREATEST_DENOMINATOR
 tens_few n h = pow-le-pow_right {n = 10} (omega arith) {i = n} {j = MOST_DECIMALS} h
 
-denominator_small : (x : Numeral) → IsProbability x → (ratio_of x).den ≤ GREATEST_DENOMINATOR
-denominator_small (Whole ds) h = omega arith
-denominator_small (Quotient ds es) h = h.1
-denominator_small (Decimal ds es) h = tens_few (length es) h.0
+denominator_small : (n : ℕ) (x : Numeral) → IsNumberUpTo n x → (ratio_of x).den ≤ GREATEST_DENOMINATOR
+denominator_small n (Whole ds) h = omega arith
+denominator_small n (Quotient ds es) h = h.1
+denominator_small n (Decimal ds es) h = tens_few (length es) h.0
 
-at_most_one : (x : Numeral) → IsProbability x → (ratio_of x).num ≤ (ratio_of x).den
-at_most_one (Whole ds) h = h
-at_most_one (Quotient ds es) h = h.2
-at_most_one (Decimal ds es) h = h.1
+at_most : (n : ℕ) (x : Numeral) → IsNumberUpTo n x → (ratio_of x).num ≤ n * (ratio_of x).den
+at_most n (Whole ds) h = omega (arith, h)
+at_most n (Quotient ds es) h = h.2
+at_most n (Decimal ds es) h = h.1
 
--- the value of a number that is a probability
-pub reduced : (x : Numeral) (r : Ratio) → IsProbability x → IsValue x r → IsReduced r
-reduced x r h v =
-    let q : Ratio = ratio_of x in
-    let some : 0 < (ratio_of x).den = denominator_some x h in
+-- the value of a number that is at most another
+pub reduced : (n : ℕ) (x : Numeral) (r : Ratio) → IsNumberUpTo n x → IsValue x r → IsReducedUpTo n r
+reduced n x r h v =
+    let some : 0 < (ratio_of x).den = denominator_some n x h in
     let g : 0 < v.divisor = divisor_some (ratio_of x).den r.den v.divisor some v.den in
     record {
       lowest = coprime (ratio_of x).num (ratio_of x).den r.num r.den v.divisor g v.greatest v.num v.den;
       some = quotient_some (ratio_of x).den r.den v.divisor some v.den;
-      small = le_to r.den (ratio_of x).den GREATEST_DENOMINATOR (quotient_less (ratio_of x).den r.den v.divisor g v.den) (denominator_small x h);
-      probability = order_left r.num r.den v.divisor g (between (ratio_of x).num (ratio_of x).den (r.num * v.divisor) (r.den * v.divisor) v.num v.den (at_most_one x h));
+      small = le_to r.den (ratio_of x).den GREATEST_DENOMINATOR (quotient_less (ratio_of x).den r.den v.divisor g v.den) (denominator_small n x h);
+      least = order_left r.num (n * r.den) v.divisor g (between (ratio_of x).num (ratio_of x).den r.num r.den v.divisor v.num v.den (at_most n x h));
     }
   where
     le_to : (a b c : ℕ) → a ≤ b → b ≤ c → a ≤ c
     le_to a b c p q = omega arith
 
-    between : (m n a b : ℕ) → m ≡ a → n ≡ b → m ≤ n → a ≤ b
-    between m n a b e f l = omega arith
+    between : (m d a b g : ℕ) → m ≡ a * g → d ≡ b * g → m ≤ n * d → a * g ≤ n * b * g
+    between m d a b g e f l = subst (λ z. z ≤ n * b * g) e (subst (λ z. m ≤ z) (ap (λ z. n * z) f ∙ sym (mul_assoc n b g)) l)
 
 -- tokens
 
 AreTokens : List Token → Type 0
-AreTokens ts = AllByRecursion (λ t. IsToken One t) ts
+AreTokens ts = AllByRecursion (λ t. IsToken t) ts
 
-cut_tokens : (ps : List Piece) (rest : List ℕ) → Cuts One ps rest → AreTokens (tokens ps)
+cut_tokens : (ps : List Piece) (rest : List ℕ) → Cuts ps rest → AreTokens (tokens ps)
 unfolding AreTokens
 cut_tokens [] rest c = tt
 cut_tokens (Blank b ∷ ps) rest c = cut_tokens ps rest c.1
@@ -125,36 +126,98 @@ prob_writable p i h =
     (record { names = names_of p.formula i.formula t.0; nests = read_nests p.formula i.formula i.nests }, given_writable p.given i.given t.1)
 
 related_lawful : (x : Relation) (s : Side) (r : Ratio) (upper : Option Ratio) → IsRelation x → States x s r upper → IsReduced r × IsUpper s upper
-related_lawful (Exactly x) s r upper h k = (reduced x r h k.1, subst (λ u. IsUpper s u) (sym k.2) tt)
-related_lawful (AtLeast x) s r upper h k = (reduced x r h k.1, subst (λ u. IsUpper s u) (sym k.2) tt)
-related_lawful (AtMost x) s r upper h k = (reduced x r h k.1, subst (λ u. IsUpper s u) (sym k.2) tt)
+related_lawful (Exactly x) s r upper h k = (reduced 1 x r h k.1, subst (λ u. IsUpper s u) (sym k.2) tt)
+related_lawful (AtLeast x) s r upper h k = (reduced 1 x r h k.1, subst (λ u. IsUpper s u) (sym k.2) tt)
+related_lawful (AtMost x) s r upper h k = (reduced 1 x r h k.1, subst (λ u. IsUpper s u) (sym k.2) tt)
 related_lawful (Within x y) s r None h k = absurd k
-related_lawful (Within x y) s r (Some q) h k = (reduced x r h.0 k.1, subst (λ z. IsUpper z (Some q)) (sym k.0) (reduced y q h.1 k.2))
+related_lawful (Within x y) s r (Some q) h k = (reduced 1 x r h.0 k.1, subst (λ z. IsUpper z (Some q)) (sym k.0) (reduced 1 y q h.1 k.2))
 
-item_lawful : (e : ItemSyntax) (i : Item) → IsWellFormedItem e → AreTokens (item_tokens e) → IsItem e i → IsLawfulItem i
+-- linear sentences
+
+weight : (m : Bool) (x : Numeral) (r : SignedRatio) → IsWeight x → IsSignedValue m x r → IsReducedWeight r
+weight m x r h k = reduced GREATEST_NUMBER x (size_of r) h k.size
+
+sum_lawful : (x : SignedRelation) (s : Side) (r : SignedRatio) (upper : Option SignedRatio) → IsSignedRelation x → StatesSum x s r upper → IsReducedWeight r × IsSumUpper s upper
+sum_lawful (Exactly x) s r upper h k = (weight x.minus x.size r h k.1, subst (λ u. IsSumUpper s u) (sym k.2) tt)
+sum_lawful (AtLeast x) s r upper h k = (weight x.minus x.size r h k.1, subst (λ u. IsSumUpper s u) (sym k.2) tt)
+sum_lawful (AtMost x) s r upper h k = (weight x.minus x.size r h k.1, subst (λ u. IsSumUpper s u) (sym k.2) tt)
+sum_lawful (Within x y) s r None h k = absurd k
+sum_lawful (Within x y) s r (Some q) h k = (weight x.minus x.size r h.0 k.1, subst (λ z. IsSumUpper z (Some q)) (sym k.0) (weight y.minus y.size q h.1 k.2))
+
+term_writable : (t : Term) (s : Summand) → IsTerm t → AreTokens (term_tokens t) → IsSummand t s → IsReducedWeight s.coefficient × IsWritable s.formula
+term_writable t s i h k = (
+  weight t.minus (coefficient_of t.coefficient) s.coefficient (coefficient_within t.coefficient i.coefficient) k.coefficient,
+  subst IsWritable (sym k.formula) (prob_writable (alone t.formula) (record { formula = i.formula; nests = i.nests; given = tt }) (split (coefficient_tokens t.coefficient) (prob_tokens (alone t.formula)) h).1).0,
+)
+
+further_writable : (ts : List Term) (ss : List Summand) → AreTerms ts → AreTokens (further_tokens ts) → AreSummands ts ss → AreWritable ss
 unfolding AreTokens
-item_lawful (Sentence p r) (Stated s) w h m =
+further_writable [] [] i h k = tt
+further_writable [] (s ∷ ss) i h k = absurd k
+further_writable (t ∷ ts) [] i h k = absurd k
+further_writable (t ∷ ts) (s ∷ ss) i h k =
+    let parts = split (term_tokens t) (further_tokens ts) h.1 in (term_writable t s i.0 parts.0 k.0, further_writable ts ss i.1 parts.1 k.1)
+
+terms_writable : (ts : List Term) (ss : List Summand) → AreTerms ts → AreTokens (terms_tokens ts) → AreSummands ts ss → AreWritable ss
+unfolding AreTokens
+terms_writable [] [] i h k = tt
+terms_writable [] (s ∷ ss) i h k = absurd k
+terms_writable (t ∷ ts) [] i h k = absurd k
+terms_writable (t ∷ ts) (s ∷ ss) i h k =
+    let behind = split (minus_tokens t.minus) (term_tokens t ++ further_tokens ts) h in
+    let parts = split (term_tokens t) (further_tokens ts) behind.1 in
+    (term_writable t s i.0 parts.0 k.0, further_writable ts ss i.1 parts.1 k.1)
+
+as_many : (ts : List Term) (ss : List Summand) → AreSummands ts ss → length ts ≡ length ss
+as_many [] [] k = refl
+as_many [] (s ∷ ss) k = absurd k
+as_many (t ∷ ts) [] k = absurd k
+as_many (t ∷ ts) (s ∷ ss) k = ap suc (as_many ts ss k.1)
+
+some_terms : (ts : List Term) → IsLinear ts → 1 ≤ length ts
+some_terms [] h = absurd h
+some_terms (t ∷ ts) h = omega arith
+
+linear_lawful : (v : Version) (ts : List Term) (r : SignedRelation) (s : LinearStatement) → IsLinearItem v ts r → AreTokens (terms_tokens ts) → IsLinearStatement ts r s → IsLawfulSum s
+linear_lawful v ts r s w h m =
+    let l = sum_lawful r s.side s.value s.upper w.relation m.stated in
+    let n : length ts ≡ length s.terms = as_many ts s.terms m.terms in
+    record {
+      some = subst (λ k. 1 ≤ k) n (some_terms ts w.linear);
+      few = subst (λ k. k ≤ MOST_TERMS) n w.few;
+      terms = terms_writable ts s.terms w.terms h m.terms;
+      value = l.0;
+      upper = l.1;
+    }
+
+item_lawful : (v : Version) (e : ItemSyntax) (i : Item) → IsWellFormedItem v e → AreTokens (item_tokens e) → IsItem e i → IsLawfulItem i
+unfolding AreTokens
+item_lawful v (Sentence p r) (Stated (meaning.Plain s)) w h m =
     let front = split (prob_tokens p ++ relation_tokens r) (Sign Semicolon ∷ []) h in
     let parts = split (prob_tokens p) (relation_tokens r) front.0 in
     let k = prob_writable p w.0 parts.0 in
     let l = related_lawful r s.side s.value s.upper w.1 m.stated in
     (subst IsWritable (sym m.formula) k.0, subst IsWritableGiven (sym m.given) k.1, l.0, l.1)
-item_lawful (Query p) (Asked q) w h m =
+item_lawful v (Query p) (Asked q) w h m =
     let k = prob_writable p w (split (prob_tokens p) (Sign Semicolon ∷ []) h.1).0 in
     (subst IsWritable (ap (λ x. x.formula) (sym m)) k.0, subst IsWritableGiven (ap (λ x. x.given) (sym m)) k.1)
-item_lawful (Sentence p r) (Asked q) w h m = absurd m
-item_lawful (Query p) (Stated s) w h m = absurd m
+item_lawful v (Sentence p r) (Asked q) w h m = absurd m
+item_lawful v (Sentence p r) (Stated (meaning.Linear s)) w h m = absurd m
+item_lawful v (Linear ts r) (Stated (meaning.Linear s)) w h m = linear_lawful v ts r s w (split (terms_tokens ts) (signed_relation_tokens r) (split (terms_tokens ts ++ signed_relation_tokens r) (Sign Semicolon ∷ []) h).0).0 m
+item_lawful v (Linear ts r) (Stated (meaning.Plain s)) w h m = absurd m
+item_lawful v (Linear ts r) (Asked q) w h m = absurd m
+item_lawful v (Query p) (Stated s) w h m = absurd m
 
-all_lawful : (es : List ItemSyntax) (is : List Item) → AreWellFormedItems es → AreTokens (items_tokens es) → AreItems es is → AreLawful is
+all_lawful : (v : Version) (es : List ItemSyntax) (is : List Item) → AreWellFormedItems v es → AreTokens (items_tokens es) → AreItems es is → AreLawful is
 unfolding AreTokens
-all_lawful [] [] w h m = tt
-all_lawful [] (i ∷ is) w h m = absurd m
-all_lawful (e ∷ es) [] w h m = absurd m
-all_lawful (e ∷ es) (i ∷ is) w h m = let s = split (item_tokens e) (items_tokens es) h in (item_lawful e i w.0 s.0 m.0, all_lawful es is w.1 s.1 m.1)
+all_lawful v [] [] w h m = tt
+all_lawful v [] (i ∷ is) w h m = absurd m
+all_lawful v (e ∷ es) [] w h m = absurd m
+all_lawful v (e ∷ es) (i ∷ is) w h m = let s = split (item_tokens e) (items_tokens es) h in (item_lawful v e i w.0 s.0 m.0, all_lawful v es is w.1 s.1 m.1)
 
 -- what stands at the front means lawful items
 pub front_lawful : (bytes : List ℕ) (items : List Item) (n : ℕ) → IsFront bytes items n → AreLawful items
 unfolding AreTokens
 front_lawful bytes items n f = let t = f.text in
     let all : AreTokens (text_tokens t.written) = subst AreTokens t.derived (cut_tokens t.pieces t.rest t.cuts) in
-    all_lawful t.written items t.within (split (items_tokens t.written) (Word (codes "end") ∷ Sign Semicolon ∷ []) all.1.1.1).0 f.meant
+    all_lawful t.written.version t.written.items items t.within (split (items_tokens t.written.items) (Word (codes "end") ∷ Sign Semicolon ∷ []) all.1.1.1).0 f.meant

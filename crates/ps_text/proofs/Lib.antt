@@ -5,6 +5,7 @@ pub mod Longest
 pub mod Deriving
 pub mod Frames
 pub mod Signs
+pub mod TermTokens
 pub mod Steps
 pub mod FormulaSteps
 pub mod Derived
@@ -15,6 +16,8 @@ pub mod Laying
 pub mod Canonicals
 pub mod Meant
 pub mod Excluding
+pub mod Apart
+pub mod Plain
 pub mod Nesting
 pub mod Lawful
 pub mod Sorting

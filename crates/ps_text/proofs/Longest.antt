@@ -1,9 +1,9 @@
 -- Where the longest token ends.
 use Rattle.std.proofs.Common.{◌≡◌, ℕ, ◌≤◌, true, false, List, [], ◌∷◌, ◌++◌, length, refl, sym, ap, subst, ◌∙◌, arith, append_assoc, length-append}
 use Rattle.std.specs.Prelude.{◌==◌}
-use Rattle.ps_text.specs.Tokens.{Version, Token, Word, Number, Sign, Symbol, Numeral, Whole, Quotient, Decimal, is_letter, is_digit, is_word_byte, IsWord, AreDigits, IsNumeral, IsToken, numeral_spelling, spelling, symbol_spelling, IsLongest}
+use Rattle.ps_text.specs.Tokens.{Token, Word, Number, Sign, Symbol, Arrow, Minus, Numeral, Whole, Quotient, Decimal, is_letter, is_digit, is_word_byte, IsWord, AreDigits, IsNumeral, IsToken, numeral_spelling, spelling, symbol_spelling, IsLongest}
 use Rattle.ps_text.proofs.Spans.{starts, starts_behind, false_true, refute, both, same_byte, span_le, span_same, word-push, digits-push, digits_pass, word_passes, word_starts, digits_start, not_both}
-use Rattle.ps_text.proofs.Symbols.{symbol_no_letter, symbol_no_digit, symbol_le}
+use Rattle.ps_text.proofs.Symbols.{SymbolStops, symbol_no_letter, symbol_no_digit, symbol_le}
 
 -- a numeral ends there
 abbrev pub NumeralStops : Numeral → List ℕ → Type 0
@@ -15,62 +15,71 @@ NumeralStops (Decimal ds es) after = starts is_digit after ≡ false
 abbrev pub Stops : Token → List ℕ → Type 0
 Stops (Word w) after = starts is_word_byte after ≡ false
 Stops (Number n) after = NumeralStops n after
-Stops (Sign s) after = Unit {0}
+Stops (Sign s) after = SymbolStops s after
 
-pub IsLongest-def : (v : Version) (t : Token) (after : List ℕ) → ((u : Token) (more : List ℕ) → IsToken v u → spelling u ++ more ≡ spelling t ++ after → length (spelling u) ≤ length (spelling t)) → IsLongest v t after
+pub IsLongest-def : (t : Token) (after : List ℕ) → ((u : Token) (more : List ℕ) → IsToken u → spelling u ++ more ≡ spelling t ++ after → length (spelling u) ≤ length (spelling t)) → IsLongest t after
 unfolding IsLongest
-IsLongest-def v t after h = h
+IsLongest-def t after h = h
 
-pub IsLongest-at : (v : Version) (t : Token) (after : List ℕ) → IsLongest v t after → (u : Token) (more : List ℕ) → IsToken v u → spelling u ++ more ≡ spelling t ++ after → length (spelling u) ≤ length (spelling t)
+pub IsLongest-at : (t : Token) (after : List ℕ) → IsLongest t after → (u : Token) (more : List ℕ) → IsToken u → spelling u ++ more ≡ spelling t ++ after → length (spelling u) ≤ length (spelling t)
 unfolding IsLongest
-IsLongest-at v t after h = h
+IsLongest-at t after h = h
 
-no_word : (v : Version) (w after : List ℕ) → IsWord w → IsLongest v (Word w) after → starts is_word_byte after ≡ false
-no_word v w [] t l = refl
-no_word v w (b ∷ bs) t l = refute (is_word_byte b) (λ h. let le = IsLongest-at v (Word w) (b ∷ bs) l (Word (w ++ b ∷ [])) bs (word-push w b t h) (append_assoc w (b ∷ []) bs) in let len = length-append w (b ∷ []) in omega arith)
+no_word : (w after : List ℕ) → IsWord w → IsLongest (Word w) after → starts is_word_byte after ≡ false
+no_word w [] t l = refl
+no_word w (b ∷ bs) t l = refute (is_word_byte b) (λ h. let le = IsLongest-at (Word w) (b ∷ bs) l (Word (w ++ b ∷ [])) bs (word-push w b t h) (append_assoc w (b ∷ []) bs) in let len = length-append w (b ∷ []) in omega arith)
 
-no_digit : (v : Version) (ds after : List ℕ) → AreDigits ds → IsLongest v (Number (Whole ds)) after → starts is_digit after ≡ false
-no_digit v w [] t l = refl
-no_digit v w (b ∷ bs) t l = refute (is_digit b) (λ h. let le = IsLongest-at v (Number (Whole w)) (b ∷ bs) l (Number (Whole (w ++ b ∷ []))) bs (digits-push w b t h) (append_assoc w (b ∷ []) bs) in let len = length-append w (b ∷ []) in omega arith)
+no_digit : (ds after : List ℕ) → AreDigits ds → IsLongest (Number (Whole ds)) after → starts is_digit after ≡ false
+no_digit w [] t l = refl
+no_digit w (b ∷ bs) t l = refute (is_digit b) (λ h. let le = IsLongest-at (Number (Whole w)) (b ∷ bs) l (Number (Whole (w ++ b ∷ []))) bs (digits-push w b t h) (append_assoc w (b ∷ []) bs) in let len = length-append w (b ∷ []) in omega arith)
 
 -- digits behind a separator would go on
-no_behind : (v : Version) (c : ℕ) (ds after : List ℕ) → IsLongest v (Number (Whole ds)) after
-    → ((d : ℕ) → is_digit d ≡ true → (u : Token) × (IsToken v u) × (spelling u ≡ ds ++ c ∷ d ∷ [])) → starts_behind c after ≡ false
-no_behind v c w [] l f = refl
-no_behind v c w (b ∷ []) l f = refute (starts_behind c (b ∷ [])) (λ h. false_true refl (both (b == c) false h).1)
-no_behind v c w (b ∷ d ∷ bs) l f = refute (starts_behind c (b ∷ d ∷ bs)) (λ h.
+no_behind : (c : ℕ) (ds after : List ℕ) → IsLongest (Number (Whole ds)) after
+    → ((d : ℕ) → is_digit d ≡ true → (u : Token) × (IsToken u) × (spelling u ≡ ds ++ c ∷ d ∷ [])) → starts_behind c after ≡ false
+no_behind c w [] l f = refl
+no_behind c w (b ∷ []) l f = refute (starts_behind c (b ∷ [])) (λ h. false_true refl (both (b == c) false h).1)
+no_behind c w (b ∷ d ∷ bs) l f = refute (starts_behind c (b ∷ d ∷ bs)) (λ h.
     let p = both (b == c) (is_digit d) h in
     let same : b ≡ c = same_byte b c p.0 in
     let t = f d p.1 in
     let e : spelling t.0 ++ bs ≡ w ++ b ∷ d ∷ bs = ap (λ x. x ++ bs) t.2 ∙ append_assoc w (c ∷ d ∷ []) bs ∙ ap (λ x. w ++ x ∷ d ∷ bs) (sym same) in
-    let le = IsLongest-at v (Number (Whole w)) (b ∷ d ∷ bs) l t.0 bs t.1 e in
+    let le = IsLongest-at (Number (Whole w)) (b ∷ d ∷ bs) l t.0 bs t.1 e in
     let len = ap length t.2 in let len2 = length-append w (c ∷ d ∷ []) in omega arith)
 
 -- more digits behind the separator would go on
-no_more : (v : Version) (t : Token) (c : ℕ) (ds es after : List ℕ) → spelling t ≡ ds ++ c ∷ es → AreDigits es → IsLongest v t after
-    → ((xs : List ℕ) → AreDigits xs → (u : Token) × (IsToken v u) × (spelling u ≡ ds ++ c ∷ xs)) → starts is_digit after ≡ false
-no_more v t c ds es [] s i l f = refl
-no_more v t c ds es (b ∷ bs) s i l f = refute (is_digit b) (λ h.
+no_more : (t : Token) (c : ℕ) (ds es after : List ℕ) → spelling t ≡ ds ++ c ∷ es → AreDigits es → IsLongest t after
+    → ((xs : List ℕ) → AreDigits xs → (u : Token) × (IsToken u) × (spelling u ≡ ds ++ c ∷ xs)) → starts is_digit after ≡ false
+no_more t c ds es [] s i l f = refl
+no_more t c ds es (b ∷ bs) s i l f = refute (is_digit b) (λ h.
     let u = f (es ++ b ∷ []) (digits-push es b i h) in
     let grouped : (ds ++ c ∷ (es ++ b ∷ [])) ++ bs ≡ (ds ++ c ∷ es) ++ b ∷ bs = simp append_assoc in
     let e : spelling u.0 ++ bs ≡ spelling t ++ b ∷ bs = ap (λ x. x ++ bs) u.2 ∙ grouped ∙ ap (λ x. x ++ b ∷ bs) (sym s) in
-    let le = IsLongest-at v t (b ∷ bs) l u.0 bs u.1 e in
+    let le = IsLongest-at t (b ∷ bs) l u.0 bs u.1 e in
     let len = ap length u.2 in let len2 = ap length s in let len3 = length-append ds (c ∷ (es ++ b ∷ [])) in let len4 = length-append es (b ∷ []) in let len5 = length-append ds (c ∷ es) in omega arith)
 
-numeral_stops : (v : Version) (n : Numeral) (after : List ℕ) → IsNumeral n → IsLongest v (Number n) after → NumeralStops n after
-numeral_stops v (Whole ds) after i l = (
-  no_digit v ds after i l,
-  no_behind v 47 ds after l (λ d h. (Number (Quotient ds (d ∷ [])), (i, (h, tt)), refl)),
-  no_behind v 46 ds after l (λ d h. (Number (Decimal ds (d ∷ [])), (i, (h, tt)), refl)),
+numeral_stops : (n : Numeral) (after : List ℕ) → IsNumeral n → IsLongest (Number n) after → NumeralStops n after
+numeral_stops (Whole ds) after i l = (
+  no_digit ds after i l,
+  no_behind 47 ds after l (λ d h. (Number (Quotient ds (d ∷ [])), (i, (h, tt)), refl)),
+  no_behind 46 ds after l (λ d h. (Number (Decimal ds (d ∷ [])), (i, (h, tt)), refl)),
 )
-numeral_stops v (Quotient ds es) after i l = no_more v (Number (Quotient ds es)) 47 ds es after refl i.1 l (λ xs h. (Number (Quotient ds xs), (i.0, h), refl))
-numeral_stops v (Decimal ds es) after i l = no_more v (Number (Decimal ds es)) 46 ds es after refl i.1 l (λ xs h. (Number (Decimal ds xs), (i.0, h), refl))
+numeral_stops (Quotient ds es) after i l = no_more (Number (Quotient ds es)) 47 ds es after refl i.1 l (λ xs h. (Number (Quotient ds xs), (i.0, h), refl))
+numeral_stops (Decimal ds es) after i l = no_more (Number (Decimal ds es)) 46 ds es after refl i.1 l (λ xs h. (Number (Decimal ds xs), (i.0, h), refl))
+
+-- a `>` behind a `-` would go on
+no_arrow : (after : List ℕ) → IsLongest (Sign Minus) after → starts (λ b. b == 62) after ≡ false
+no_arrow [] l = refl
+no_arrow (b ∷ bs) l = refute (b == 62) (λ h. let le = IsLongest-at (Sign Minus) (b ∷ bs) l (Sign Arrow) bs tt (ap (λ x. 45 ∷ x ∷ bs) (sym (same_byte b 62 h))) in omega arith)
+
+symbol_stops : (s : Symbol) (after : List ℕ) → IsLongest (Sign s) after → SymbolStops s after
+symbol_stops Minus after l = no_arrow after l
+symbol_stops s after l = tt
 
 -- behind the longest token none goes on
-pub longest_stops : (v : Version) (t : Token) (after : List ℕ) → IsToken v t → IsLongest v t after → Stops t after
-longest_stops v (Word w) after t l = no_word v w after t l
-longest_stops v (Number n) after t l = numeral_stops v n after t l
-longest_stops v (Sign s) after t l = tt
+pub longest_stops : (t : Token) (after : List ℕ) → IsToken t → IsLongest t after → Stops t after
+longest_stops (Word w) after t l = no_word w after t l
+longest_stops (Number n) after t l = numeral_stops n after t l
+longest_stops (Sign s) after t l = symbol_stops s after l
 
 -- the first byte of what begins with a digit or with a letter is no symbol's
 pub symbol_apart : (s : Symbol) (bytes after : List ℕ) → bytes ≡ symbol_spelling s ++ after → starts is_letter bytes ≡ true → ⊥
@@ -118,17 +127,17 @@ numeral_le (Decimal w x) (Whole ds) more after i j s e = absurd (one_behind 46 w
 numeral_le (Decimal w x) (Quotient ds es) more after i j s e = two_behind 46 47 w x ds es more after refl refl i.0 i.1 j.0 s e
 numeral_le (Decimal w x) (Decimal ds es) more after i j s e = two_behind 46 46 w x ds es more after refl refl i.0 i.1 j.0 s e
 
-last : (v : Version) (t : Token) (after : List ℕ) → IsToken v t → Stops t after → (u : Token) (more : List ℕ) → IsToken v u → spelling u ++ more ≡ spelling t ++ after → length (spelling u) ≤ length (spelling t)
-last v (Word x) after i s (Word w) more u e = span_le is_word_byte w x more after (word_passes w u) s e
-last v (Word x) after i s (Number n) more u e = absurd (not_both (numeral_spelling n ++ more) (rw e (word_starts x after i)) (numeral_starts n more u))
-last v (Word x) after i s (Sign b) more u e = absurd (symbol_apart b (x ++ after) more (sym e) (word_starts x after i))
-last v (Number n) after i s (Word w) more u e = absurd (not_both (w ++ more) (word_starts w more u) (rw e (numeral_starts n after i)))
-last v (Number n) after i s (Number m) more u e = numeral_le m n more after u i s e
-last v (Number n) after i s (Sign b) more u e = absurd (symbol_apart_digit b (numeral_spelling n ++ after) more (sym e) (numeral_starts n after i))
-last v (Sign a) after i s (Word w) more u e = absurd (symbol_apart a (w ++ more) after e (word_starts w more u))
-last v (Sign a) after i s (Number n) more u e = absurd (symbol_apart_digit a (numeral_spelling n ++ more) after e (numeral_starts n more u))
-last v (Sign a) after i s (Sign b) more u e = symbol_le b a more after e
+last : (t : Token) (after : List ℕ) → IsToken t → Stops t after → (u : Token) (more : List ℕ) → IsToken u → spelling u ++ more ≡ spelling t ++ after → length (spelling u) ≤ length (spelling t)
+last (Word x) after i s (Word w) more u e = span_le is_word_byte w x more after (word_passes w u) s e
+last (Word x) after i s (Number n) more u e = absurd (not_both (numeral_spelling n ++ more) (rw e (word_starts x after i)) (numeral_starts n more u))
+last (Word x) after i s (Sign b) more u e = absurd (symbol_apart b (x ++ after) more (sym e) (word_starts x after i))
+last (Number n) after i s (Word w) more u e = absurd (not_both (w ++ more) (word_starts w more u) (rw e (numeral_starts n after i)))
+last (Number n) after i s (Number m) more u e = numeral_le m n more after u i s e
+last (Number n) after i s (Sign b) more u e = absurd (symbol_apart_digit b (numeral_spelling n ++ after) more (sym e) (numeral_starts n after i))
+last (Sign a) after i s (Word w) more u e = absurd (symbol_apart a (w ++ more) after e (word_starts w more u))
+last (Sign a) after i s (Number n) more u e = absurd (symbol_apart_digit a (numeral_spelling n ++ more) after e (numeral_starts n more u))
+last (Sign a) after i s (Sign b) more u e = symbol_le b a more after s e
 
 -- where none goes on the token is the longest
-pub stops_longest : (v : Version) (t : Token) (after : List ℕ) → IsToken v t → Stops t after → IsLongest v t after
-stops_longest v t after i s = IsLongest-def v t after (last v t after i s)
+pub stops_longest : (t : Token) (after : List ℕ) → IsToken t → Stops t after → IsLongest t after
+stops_longest t after i s = IsLongest-def t after (last t after i s)

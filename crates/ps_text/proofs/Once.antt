@@ -5,9 +5,9 @@ use Rattle.std.proofs.lemmas.Slice.Eq.{bytes_eq-Decides}
 use Rattle.std.proofs.lemmas.List.{length-append}
 use Rattle.std.specs.Prelude.{◌==◌}
 use Rattle.ps_meaning.specs.Statements.{Item}
-use Rattle.ps_text.specs.Tokens.{One, Token, Word, Number, Sign, Numeral, Whole, Quotient, Decimal, Open, Close, OpenBracket, CloseBracket, Comma, Semicolon, Bang, Ampersand, Bar, Arrow, DoubleArrow, Equals, GreaterEquals, LessEquals, is_letter, is_digit, IsToken, IsNumeral, IsLongest, spelling, numeral_spelling, symbol_spelling}
+use Rattle.ps_text.specs.Tokens.{Token, Word, Number, Sign, Numeral, Whole, Quotient, Decimal, Open, Close, OpenBracket, CloseBracket, Comma, Semicolon, Bang, Ampersand, Bar, Arrow, DoubleArrow, Equals, GreaterEquals, LessEquals, Plus, Minus, is_letter, is_digit, IsToken, IsNumeral, IsLongest, spelling, numeral_spelling, symbol_spelling}
 use Rattle.ps_text.specs.Pieces.{is_blank, Piece, Blank, Comment, Spelled, text, EndsLine, Fits, texts, Cuts, tokens, IsBare}
-use Rattle.ps_text.specs.Grammar.{ItemSyntax, AreWellFormedItems, text_tokens}
+use Rattle.ps_text.specs.Grammar.{TextSyntax, IsWellFormedText, text_tokens}
 use Rattle.ps_text.specs.Fronts.{IsTextFront, IsFront}
 use Rattle.ps_text.proofs.Spans.{starts, refute, span_same, digits_pass, word_starts, not_both}
 use Rattle.ps_text.proofs.Longest.{IsLongest-at, numeral_starts, symbol_apart, symbol_apart_digit}
@@ -47,14 +47,14 @@ numeral_once (Quotient d c) (Decimal e f) i j h =
 numeral_once (Decimal d c) (Quotient e f) i j h =
     let s = span_same is_digit d e (46 ∷ c) (47 ∷ f) (digits_pass d i.0) (digits_pass e j.0) refl refl h in let k = heads 46 47 c f s.1 in absurd (omega (arith, k))
 
-letters : (w : List ℕ) → IsToken One (Word w) → starts is_letter w ≡ true
+letters : (w : List ℕ) → IsToken (Word w) → starts is_letter w ≡ true
 letters w i = subst (λ z. starts is_letter z ≡ true) (append-nil w) (word_starts w [] i)
 
 digits : (n : Numeral) → IsNumeral n → starts is_digit (numeral_spelling n) ≡ true
 digits n i = subst (λ z. starts is_digit z ≡ true) (append-nil (numeral_spelling n)) (numeral_starts n [] i)
 
 -- a token is known by its spelling
-spelled_once : (t u : Token) → IsToken One t → IsToken One u → spelling t ≡ spelling u → t ≡ u
+pub spelled_once : (t u : Token) → IsToken t → IsToken u → spelling t ≡ spelling u → t ≡ u
 spelled_once (Word w) (Word x) i j e = ap Word e
 spelled_once (Word w) (Number n) i j e = absurd (not_both w (letters w i) (subst (λ z. starts is_digit z ≡ true) (sym e) (digits n j)))
 spelled_once (Word w) (Sign s) i j e = absurd (symbol_apart s w [] (e ∙ sym (append-nil (symbol_spelling s))) (letters w i))
@@ -75,7 +75,7 @@ digit_bare : (b : ℕ) (bs : List ℕ) → is_digit b ≡ true → IsBare (b ∷
 digit_bare b bs h = bare_byte b bs (refute (is_blank b) (λ e. grind (arith, nat_tests))) (refute (b == 35) (λ e. grind (arith, nat_tests)))
 
 -- a token begins with no blank and no comment
-pub bare_token : (t : Token) (after : List ℕ) → IsToken One t → IsBare (spelling t ++ after)
+pub bare_token : (t : Token) (after : List ℕ) → IsToken t → IsBare (spelling t ++ after)
 bare_token (Word []) after i = absurd i
 bare_token (Word (b ∷ bs)) after i = letter_bare b (bs ++ after) i.0
 bare_token (Number (Whole [])) after i = absurd i
@@ -98,9 +98,11 @@ bare_token (Sign DoubleArrow) after i = refl
 bare_token (Sign Equals) after i = refl
 bare_token (Sign GreaterEquals) after i = refl
 bare_token (Sign LessEquals) after i = refl
+bare_token (Sign Plus) after i = refl
+bare_token (Sign Minus) after i = refl
 
 -- a token has bytes
-pub some_bytes : (t : Token) (after : List ℕ) → IsToken One t → [] ≡ spelling t ++ after → ⊥
+pub some_bytes : (t : Token) (after : List ℕ) → IsToken t → [] ≡ spelling t ++ after → ⊥
 some_bytes (Word []) after i e = i
 some_bytes (Word (b ∷ bs)) after i e = absurd (nil_cons b (bs ++ after) e)
 some_bytes (Number (Whole [])) after i e = i
@@ -112,10 +114,10 @@ some_bytes (Number (Decimal (b ∷ bs) es)) after i e = absurd (nil_cons b ((bs 
 some_bytes (Sign s) after i e = let l = ap length e in let a = length-append (symbol_spelling s) after in let p = symbol_some s in absurd (omega arith)
 
 -- neither a blank nor a comment stands at the front of bare bytes
-not_blank : (c : ℕ) (a bytes : List ℕ) → is_blank c ≡ true → c ∷ a ≡ bytes → IsBare bytes → ⊥
+pub not_blank : (c : ℕ) (a bytes : List ℕ) → is_blank c ≡ true → c ∷ a ≡ bytes → IsBare bytes → ⊥
 not_blank c a bytes f e i = let j : IsBare (c ∷ a) = subst IsBare (sym e) i in true≢false (sym j ∙ ap (λ z. not (z || c == 35)) f)
 
-not_comment : (a bytes : List ℕ) → 35 ∷ a ≡ bytes → IsBare bytes → ⊥
+pub not_comment : (a bytes : List ℕ) → 35 ∷ a ≡ bytes → IsBare bytes → ⊥
 not_comment a bytes e i = let j : IsBare (35 ∷ a) = subst IsBare (sym e) i in true≢false (sym j)
 
 stops : (after : List ℕ) → EndsLine after → starts (λ b. not (b == 10)) after ≡ false
@@ -123,7 +125,7 @@ stops [] h = refl
 stops (b ∷ bs) h = ap (λ c. not (c == 10)) h
 
 -- what stands at the front is one piece
-pub same_piece : (x y : Piece) (a b : List ℕ) → Fits One x a → Fits One y b → text x ++ a ≡ text y ++ b → (x ≡ y) × (a ≡ b)
+pub same_piece : (x y : Piece) (a b : List ℕ) → Fits x a → Fits y b → text x ++ a ≡ text y ++ b → (x ≡ y) × (a ≡ b)
 same_piece (Blank c) (Blank d) a b f g e = (ap Blank (heads c d a b e), tails c d a b e)
 same_piece (Blank c) (Comment ds) a b f g e = absurd (true≢false (sym f ∙ ap is_blank (heads c 35 a (ds ++ b) e)))
 same_piece (Blank c) (Spelled t) a b f g e = absurd (not_blank c a (spelling t ++ b) f e (bare_token t b g.0))
@@ -134,16 +136,16 @@ same_piece (Comment cs) (Spelled t) a b f g e = absurd (not_comment (cs ++ a) (s
 same_piece (Spelled t) (Blank d) a b f g e = absurd (not_blank d b (spelling t ++ a) g (sym e) (bare_token t a f.0))
 same_piece (Spelled t) (Comment ds) a b f g e = absurd (not_comment (ds ++ b) (spelling t ++ a) (sym e) (bare_token t a f.0))
 same_piece (Spelled t) (Spelled u) a b f g e =
-    let l = IsLongest-at One t a f.1 u b g.0 (sym e) in
-    let m = IsLongest-at One u b g.1 t a f.0 e in
+    let l = IsLongest-at t a f.1 u b g.0 (sym e) in
+    let m = IsLongest-at u b g.1 t a f.0 e in
     let s = append_same (spelling t) (spelling u) a b (omega (arith, l, m)) e in (ap Spelled (spelled_once t u f.0 g.0 s.0), s.1)
 
 -- the longest token at the front
 pub record Begins (bytes : List ℕ) (t : Token) : Type 0 where
   pub behind : List ℕ
   pub is : bytes ≡ spelling t ++ behind
-  pub spelled : IsToken One t
-  pub longest : IsLongest One t behind
+  pub spelled : IsToken t
+  pub longest : IsLongest t behind
 
 -- two lists of pieces are the same, or one has the other's tokens and more, of which the first stands behind the other's
 pub data Order (ps qs : List Piece) (rest others : List ℕ) : Type 0 where
@@ -160,7 +162,7 @@ grow (Comment c) ps qs rest others (Shorter t more is next) = Shorter t more is 
 grow (Spelled u) ps qs rest others (Longer t more is next) = Longer t more (ap (λ ts. u ∷ ts) is) next
 grow (Spelled u) ps qs rest others (Shorter t more is next) = Shorter t more (ap (λ ts. u ∷ ts) is) next
 
-pub order : (ps qs : List Piece) (rest others : List ℕ) → Cuts One ps rest → Cuts One qs others → IsBare rest → IsBare others → texts ps ++ rest ≡ texts qs ++ others → Order ps qs rest others
+pub order : (ps qs : List Piece) (rest others : List ℕ) → Cuts ps rest → Cuts qs others → IsBare rest → IsBare others → texts ps ++ rest ≡ texts qs ++ others → Order ps qs rest others
 order [] [] rest others c d i j e = Same refl
 order [] (Blank b ∷ qs) rest others c d i j e = absurd (not_blank b (texts qs ++ others) rest d.0 (sym e) i)
 order [] (Comment b ∷ qs) rest others c d i j e = absurd (not_comment ((b ++ texts qs) ++ others) rest (sym e) i)
@@ -174,12 +176,12 @@ order (x ∷ ps) (y ∷ qs) rest others c d i j e =
     let s = same_piece x y (texts ps ++ rest) (texts qs ++ others) c.0 d.0 (sym (append_assoc (text x) (texts ps) rest) ∙ e ∙ append_assoc (text y) (texts qs) others) in
     subst (λ z. Order (x ∷ ps) (z ∷ qs) rest others) s.0 (grow x ps qs rest others (order ps qs rest others c.1 d.1 i j s.1))
 
-done_stays : (es : List ItemSyntax) (ts : List Token) → parsed_all (InDone es) ts ≡ InDone es
+done_stays : (es : TextSyntax) (ts : List Token) → parsed_all (InDone es) ts ≡ InDone es
 done_stays es [] = refl
 done_stays es (t ∷ ts) = done_stays es ts
 
 -- no text has another's tokens and more
-no_longer : (es fs : List ItemSyntax) (t : Token) (more : List Token) → AreWellFormedItems es → AreWellFormedItems fs → text_tokens es ≡ text_tokens fs ++ t ∷ more → ⊥
+no_longer : (es fs : TextSyntax) (t : Token) (more : List Token) → IsWellFormedText es → IsWellFormedText fs → text_tokens es ≡ text_tokens fs ++ t ∷ more → ⊥
 no_longer es fs t more i j e =
     let p = sym (text_back es i) ∙ ap (parsed_all InPsat) e ∙ parsed-append InPsat (text_tokens fs) (t ∷ more) ∙ ap (λ x. parsed_all x (t ∷ more)) (text_back fs j) ∙ done_stays fs (t ∷ more) in
     let same : es ≡ fs = done_once es fs p in

@@ -2,7 +2,7 @@
 use Rattle.std.proofs.Common.{◌≡◌, ℕ, Bool, true, false, ◌||◌, List, refl, sym, ap, ◌∙◌, true≢false}
 use Rattle.std.proofs.lemmas.Slice.Eq.{bytes_eq-Decides}
 use Rattle.std.specs.Prelude.{bytes_eq, codes, if◌then◌else◌}
-use Rattle.ps_text.specs.Tokens.{Token, Word, Number, Sign, Symbol, Open, Close, OpenBracket, CloseBracket, Comma, Semicolon, Bang, Ampersand, Bar, Arrow, DoubleArrow, Equals, GreaterEquals, LessEquals, symbol_spelling, is_the_sign, is_the_word}
+use Rattle.ps_text.specs.Tokens.{Token, Word, Number, Sign, Symbol, Open, Close, OpenBracket, CloseBracket, Comma, Semicolon, Bang, Ampersand, Bar, Arrow, DoubleArrow, Equals, GreaterEquals, LessEquals, Plus, Minus, symbol_spelling, is_the_sign, is_the_word}
 
 same_bytes : (xs ys : List ℕ) → bytes_eq xs ys ≡ true → xs ≡ ys
 same_bytes xs ys h = (bytes_eq-Decides xs ys).0 h
@@ -16,7 +16,8 @@ symbol_of bs =
     else if bytes_eq bs (codes "!") then Bang else if bytes_eq bs (codes "&") then Ampersand
     else if bytes_eq bs (codes "|") then Bar else if bytes_eq bs (codes "->") then Arrow
     else if bytes_eq bs (codes "<->") then DoubleArrow else if bytes_eq bs (codes "=") then Equals
-    else if bytes_eq bs (codes ">=") then GreaterEquals else LessEquals
+    else if bytes_eq bs (codes ">=") then GreaterEquals else if bytes_eq bs (codes "<=") then LessEquals
+    else if bytes_eq bs (codes "+") then Plus else Minus
 
 symbol_back : (s : Symbol) → symbol_of (symbol_spelling s) ≡ s
 symbol_back Open = refl
@@ -33,6 +34,8 @@ symbol_back DoubleArrow = refl
 symbol_back Equals = refl
 symbol_back GreaterEquals = refl
 symbol_back LessEquals = refl
+symbol_back Plus = refl
+symbol_back Minus = refl
 
 pub the_word : (w : List ℕ) (t : Token) → is_the_word w t ≡ true → t ≡ Word w
 the_word w (Word u) h = ap Word (same_bytes u w h)

@@ -1,18 +1,23 @@
 -- The canonical text of items: how each is written, and the bytes of what is written.
-use Rattle.std.specs.Prelude.{ℕ, ◌+◌, ◌<◌, ◌≤◌, ◌==◌, nat_le, nat_lt, max, if◌then◌else◌}
-use Rattle.std.specs.Prelude.{List, [], ◌∷◌, ◌++◌, map, Option, Some, None, codes}
+use Rattle.std.specs.Prelude.{ℕ, ℤ, pos, negsuc, ◌+◌, ◌*◌, ◌<◌, ◌≤◌, ◌==◌, Bool, true, false, nat_le, nat_lt, max, if◌then◌else◌}
+use Rattle.std.specs.Prelude.{length, List, [], ◌∷◌, ◌++◌, map, Option, Some, None, codes}
 use Rattle.std.specs.Int.{IsGcd}
 use Rattle.std.specs.Fmt.{decimal}
 use Rattle.ps_meaning.specs.Formula as formula
 use Rattle.ps_meaning.specs.declared.side.Side.{Side}
 use Rattle.ps_meaning.specs.declared.side.Side.TheVariants as side
 use Rattle.ps_meaning.specs.Statements as meaning
-use Rattle.ps_meaning.specs.Statements.{Ratio, Statement, Question, Item, Stated, Asked, statements_of, questions_of}
+use Rattle.ps_meaning.specs.Statements.{Ratio, SignedRatio, size_of, Summand, PlainStatement, LinearStatement}
+use Rattle.ps_meaning.specs.Statements.{Statement, Question, Item, Stated, Asked, statements_of, questions_of}
 use Rattle.ps_meaning.specs.Names.{IsName}
-use Rattle.ps_text.specs.declared.limits.TheConstants.{GREATEST_DENOMINATOR}
+use Rattle.ps_text.specs.declared.limits.TheConstants.{GREATEST_DENOMINATOR, GREATEST_NUMBER, MOST_TERMS}
+use Rattle.ps_text.specs.declared.version.Version.{Version}
+use Rattle.ps_text.specs.declared.version.Version.TheVariants.{One, Two}
 use Rattle.ps_text.specs.Tokens.{Numeral, Whole, Quotient, numeral_spelling}
 use Rattle.ps_text.specs.Grammar.{FormulaSyntax, Name, Truth, Falsity, Not, Group, And, Or, Implies, Iff, level}
-use Rattle.ps_text.specs.Grammar.{Nests, Prob, Relation, Exactly, AtLeast, AtMost, Within, ItemSyntax, Sentence, Query}
+use Rattle.ps_text.specs.Grammar.{Nests, Prob, Relation, RelationBy, Exactly, AtLeast, AtMost}
+use Rattle.ps_text.specs.Grammar.{Within, ItemSyntax, Sentence, Linear, Query}
+use Rattle.ps_text.specs.Grammar.{Signed, Term, SignedRelation, TextSyntax, alone, version_digits}
 
 -- in parentheses where the level is below the required one, and only there
 abbrev pub fitted : ℕ → FormulaSyntax → FormulaSyntax
@@ -69,9 +74,40 @@ canonical_given (Some f) = Some (canonical_formula f)
 abbrev pub canonical_prob : formula.Formula meaning.Name → Option (formula.Formula meaning.Name) → Prob
 canonical_prob f g = record { formula = canonical_formula f; given = canonical_given g }
 
+-- whether a number is below 0
+abbrev pub is_negative : ℤ → Bool
+is_negative (pos n) = false
+is_negative (negsuc n) = true
+
+-- how a fraction that may be below 0 is written
+abbrev pub canonical_signed : SignedRatio → Signed
+canonical_signed r = record { minus = is_negative r.num; size = canonical_numeral (size_of r) }
+
+-- how a side, a value and perhaps an upper value of a sum are written
+abbrev pub canonical_sum_relation : Side → SignedRatio → Option SignedRatio → SignedRelation
+canonical_sum_relation side.Exactly r upper = Exactly (canonical_signed r)
+canonical_sum_relation side.AtMost r upper = AtMost (canonical_signed r)
+canonical_sum_relation side.AtLeast r None = AtLeast (canonical_signed r)
+canonical_sum_relation side.AtLeast r (Some q) = Within (canonical_signed r) (canonical_signed q)
+
+-- how a summand is written: its coefficient is spelled
+abbrev pub canonical_term : Summand → Term
+canonical_term s = record {
+  minus = is_negative s.coefficient.num;
+  coefficient = Some (canonical_numeral (size_of s.coefficient));
+  formula = canonical_formula s.formula;
+}
+
+-- how summands are written, in order
+abbrev pub canonical_terms : List Summand → List Term
+canonical_terms [] = []
+canonical_terms (s ∷ ss) = canonical_term s ∷ canonical_terms ss
+
 -- how an item is written
 abbrev pub canonical_item : Item → ItemSyntax
-canonical_item (Stated s) = Sentence (canonical_prob s.formula s.given) (canonical_relation s.side s.value s.upper)
+canonical_item (Stated (meaning.Plain s)) =
+    Sentence (canonical_prob s.formula s.given) (canonical_relation s.side s.value s.upper)
+canonical_item (Stated (meaning.Linear s)) = Linear (canonical_terms s.terms) (canonical_sum_relation s.side s.value s.upper)
 canonical_item (Asked q) = Query (canonical_prob q.formula q.given)
 
 -- how the items are written, in order
@@ -100,16 +136,44 @@ given_text (Some f) = codes " given " ++ syntax_text f
 abbrev pub prob_text : Prob → List ℕ
 prob_text p = codes "P(" ++ (syntax_text p.formula ++ (given_text p.given ++ codes ")"))
 
--- the text of a relation, with a space before it
+-- the text of a relation, by that of a number, with a space before it
+abbrev pub relation_text_by : {N : Type 0} → (N → List ℕ) → RelationBy N → List ℕ
+relation_text_by number (Exactly x) = codes " = " ++ number x
+relation_text_by number (AtLeast x) = codes " >= " ++ number x
+relation_text_by number (AtMost x) = codes " <= " ++ number x
+relation_text_by number (Within x y) = codes " in [" ++ (number x ++ (codes ", " ++ (number y ++ codes "]")))
+
+-- the text of a relation
 abbrev pub relation_text : Relation → List ℕ
-relation_text (Exactly x) = codes " = " ++ numeral_spelling x
-relation_text (AtLeast x) = codes " >= " ++ numeral_spelling x
-relation_text (AtMost x) = codes " <= " ++ numeral_spelling x
-relation_text (Within x y) = codes " in [" ++ (numeral_spelling x ++ (codes ", " ++ (numeral_spelling y ++ codes "]")))
+relation_text r = relation_text_by numeral_spelling r
+
+-- a number, with its `-` at it
+abbrev pub signed_text : Signed → List ℕ
+signed_text x = if x.minus then codes "-" ++ numeral_spelling x.size else numeral_spelling x.size
+
+-- a coefficient and a space, where one is spelled
+abbrev pub coefficient_text : Option Numeral → List ℕ
+coefficient_text None = []
+coefficient_text (Some x) = numeral_spelling x ++ codes " "
+
+-- a term behind its sign
+abbrev pub term_text : Term → List ℕ
+term_text t = coefficient_text t.coefficient ++ prob_text (alone t.formula)
+
+-- terms behind others: a sign has a space on each side
+abbrev pub further_text : List Term → List ℕ
+further_text [] = []
+further_text (t ∷ ts) = (if t.minus then codes " - " else codes " + ") ++ (term_text t ++ further_text ts)
+
+-- terms: a `-` before the first has a space behind it
+abbrev pub terms_text : List Term → List ℕ
+terms_text [] = []
+terms_text (t ∷ ts) = (if t.minus then codes "- " else []) ++ (term_text t ++ further_text ts)
 
 -- one line each, ended by a line feed
 abbrev pub item_text : ItemSyntax → List ℕ
 item_text (Sentence p r) = prob_text p ++ (relation_text r ++ codes ";\n")
+item_text (Linear ts r) = terms_text ts ++ (relation_text_by signed_text r ++ codes ";\n")
 item_text (Query p) = codes "query " ++ (prob_text p ++ codes ";\n")
 
 -- the texts of these items, one after the other
@@ -117,9 +181,21 @@ abbrev pub items_text : List ItemSyntax → List ℕ
 items_text [] = []
 items_text (e ∷ es) = item_text e ++ items_text es
 
+-- the version of items: 2 where a sentence is linear, and else 1
+abbrev pub version_for : List Item → Version
+version_for [] = One
+version_for (Stated (meaning.Linear s) ∷ items) = Two
+version_for (Stated (meaning.Plain s) ∷ items) = version_for items
+version_for (Asked q ∷ items) = version_for items
+
+-- how the items are written
+abbrev pub canonical_syntax : List Item → TextSyntax
+canonical_syntax items = record { version = version_for items; items = canonical_items items }
+
 -- the canonical text of these items
 abbrev pub canonical_text : List Item → List ℕ
-canonical_text items = codes "psat 1;\n" ++ (items_text (canonical_items items) ++ codes "end;\n")
+canonical_text items = (codes "psat " ++ (version_digits (version_for items) ++ codes ";\n"))
+    ++ (items_text (canonical_items items) ++ codes "end;\n")
 
 -- statements, and then questions
 abbrev pub listed : List Statement → List Question → List Item
@@ -150,12 +226,20 @@ abbrev pub IsWritableGiven : Option (formula.Formula meaning.Name) → Type 0
 IsWritableGiven None = Unit {0}
 IsWritableGiven (Some f) = IsWritable f
 
--- in lowest terms, from 0 to 1, with a denominator within the limit
-pub record IsReduced (r : Ratio) : Type 0 where
+-- in lowest terms, from 0 to this number, with a denominator within the limit
+pub record IsReducedUpTo (n : ℕ) (r : Ratio) : Type 0 where
   pub lowest : IsGcd r.num r.den 1
   pub some : 0 < r.den
   pub small : r.den ≤ GREATEST_DENOMINATOR
-  pub probability : r.num ≤ r.den
+  pub least : r.num ≤ n * r.den
+
+-- the same, from 0 to 1
+abbrev pub IsReduced : Ratio → Type 0
+IsReduced r = IsReducedUpTo 1 r
+
+-- the same, of a number of a linear sentence
+abbrev pub IsReducedWeight : SignedRatio → Type 0
+IsReducedWeight r = IsReducedUpTo GREATEST_NUMBER (size_of r)
 
 -- an upper value stands with a least one only
 abbrev pub IsUpper : Side → Option Ratio → Type 0
@@ -164,9 +248,31 @@ IsUpper side.AtLeast (Some q) = IsReduced q
 IsUpper side.AtMost (Some q) = ⊥
 IsUpper side.Exactly (Some q) = ⊥
 
+-- an upper value of a sum stands with a least one only
+abbrev pub IsSumUpper : Side → Option SignedRatio → Type 0
+IsSumUpper s None = Unit {0}
+IsSumUpper side.AtLeast (Some q) = IsReducedWeight q
+IsSumUpper side.AtMost (Some q) = ⊥
+IsSumUpper side.Exactly (Some q) = ⊥
+
+-- each summand can be written
+abbrev pub AreWritable : List Summand → Type 0
+AreWritable [] = Unit {0}
+AreWritable (s ∷ ss) = (IsReducedWeight s.coefficient × IsWritable s.formula) × AreWritable ss
+
+-- there are summands, and no more than may be, each can be written, and the values are reduced and within the limits
+pub record IsLawfulSum (s : LinearStatement) : Type 0 where
+  pub some : 1 ≤ length s.terms
+  pub few : length s.terms ≤ MOST_TERMS
+  pub terms : AreWritable s.terms
+  pub value : IsReducedWeight s.value
+  pub upper : IsSumUpper s.side s.upper
+
 -- names are names, values are reduced and within the limits, and what is written doesn't nest too deep
 abbrev pub IsLawfulItem : Item → Type 0
-IsLawfulItem (Stated s) = IsWritable s.formula × IsWritableGiven s.given × IsReduced s.value × IsUpper s.side s.upper
+IsLawfulItem (Stated (meaning.Plain s)) =
+    IsWritable s.formula × IsWritableGiven s.given × IsReduced s.value × IsUpper s.side s.upper
+IsLawfulItem (Stated (meaning.Linear s)) = IsLawfulSum s
 IsLawfulItem (Asked q) = IsWritable q.formula × IsWritableGiven q.given
 
 -- each item is lawful

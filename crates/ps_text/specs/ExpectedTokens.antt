@@ -1,33 +1,45 @@
 -- Which tokens are expected after others, and why a token is refused.
-use Rattle.std.specs.Prelude.{◌≡◌, ◌^◌, Bool, true, false, not, ◌&&◌, ◌||◌, ◌==◌, nat_lt, if◌then◌else◌}
-use Rattle.std.specs.Prelude.{bytes_eq, List, [], ◌∷◌, ◌++◌, length, Option, Some, None, codes}
+use Rattle.std.specs.Prelude.{◌≡◌, ℕ, suc, ◌*◌, ◌^◌, Bool, true, false, not, ◌&&◌, ◌||◌, ◌==◌, nat_lt, if◌then◌else◌}
+use Rattle.std.specs.Prelude.{bytes_eq, List, [], ◌∷◌, ◌++◌, length, Option, Some, None, is_some, codes}
 use Rattle.std.specs.List.{list_any}
-use Rattle.ps_text.specs.declared.limits.TheConstants.{LONGEST_WORD, MOST_OPEN, GREATEST_DENOMINATOR, MOST_DECIMALS}
+use Rattle.ps_text.specs.declared.limits.TheConstants.{LONGEST_WORD, MOST_OPEN, GREATEST_DENOMINATOR}
+use Rattle.ps_text.specs.declared.limits.TheConstants.{MOST_DECIMALS, GREATEST_NUMBER, MOST_TERMS}
 use Rattle.ps_text.specs.Tokens.{Token, Word, Number, Sign, Numeral, Whole, Quotient, Decimal}
 use Rattle.ps_text.specs.Tokens.{Open, Close, OpenBracket, CloseBracket, Comma, Semicolon, Bang, Ampersand}
-use Rattle.ps_text.specs.Tokens.{Bar, Arrow, DoubleArrow, Equals, GreaterEquals, LessEquals, is_the_word, is_the_sign}
+use Rattle.ps_text.specs.Tokens.{Bar, Arrow, DoubleArrow, Equals, GreaterEquals}
+use Rattle.ps_text.specs.Tokens.{LessEquals, Plus, Minus, is_the_word, is_the_sign}
+use Rattle.ps_text.specs.declared.version.Version.{Version}
+use Rattle.ps_text.specs.declared.version.Version.TheVariants.{One, Two}
 use Rattle.ps_text.specs.declared.part.Part.{Part}
 use Rattle.ps_text.specs.declared.part.Part.TheVariants as part
 use Rattle.ps_text.specs.declared.part.Opening.{Opening}
 use Rattle.ps_text.specs.declared.part.Opening.TheVariants as opening
-use Rattle.ps_text.specs.Grammar.{is_reserved, value}
+use Rattle.ps_text.specs.Grammar.{is_reserved, value, has_linear}
 use Rattle.ps_text.specs.declared.kind.What.TheVariants as what
 use Rattle.ps_text.specs.declared.kind.What.{What}
 use Rattle.ps_text.specs.declared.kind.ReadKind.{ReadKind}
-use Rattle.ps_text.specs.declared.kind.ReadKind.TheVariants.{NameTooLong, Expected, VersionUnknown}
+use Rattle.ps_text.specs.declared.kind.ReadKind.TheVariants.{BadByte, NameTooLong, Expected, VersionUnknown}
 use Rattle.ps_text.specs.declared.kind.ReadKind.TheVariants.{ZeroDenominator, DenominatorTooLarge, TooManyDecimals}
-use Rattle.ps_text.specs.declared.kind.ReadKind.TheVariants.{NumberOutOfRange, TooDeep}
+use Rattle.ps_text.specs.declared.kind.ReadKind.TheVariants.{NumberOutOfRange, TooDeep, TooManyTerms}
 
--- the part that is next and, in a probability, whether it is a query's, whether `given` stood, and what is open, the last first
+-- the part that is next; in a probability, whether it is a query's, whether `given` stood, and what is open, the last first;
+-- the version; in a linear sentence, how many terms stand before the last one; and whether a `-` stands before the number
 pub record State : Type 0 where
   pub part : Part
   pub query : Bool
   pub given : Bool
   pub opened : List Opening
+  pub version : Version
+  pub linear : Option ℕ
+  pub minus : Bool
 
--- outside of a probability
+-- in a text of this version, outside of a probability and of a linear sentence
+abbrev pub in_version : Version → Part → State
+in_version v p = record { part = p; query = false; given = false; opened = []; version = v; linear = None; minus = false }
+
+-- the same before the version is known, when only the tokens of version 1 are, and behind the text, where none is expected
 abbrev pub outside : Part → State
-outside p = record { part = p; query = false; given = false; opened = [] }
+outside p = in_version One p
 
 -- before the first token
 abbrev pub at_start : State
@@ -47,9 +59,18 @@ is_operand_word t = false
 abbrev pub begins_operand : Token → Bool
 begins_operand t = is_operand_word t || is_the_sign Bang t || is_the_sign Open t
 
--- `P`, `query` or `end`
-abbrev pub begins_item : Token → Bool
-begins_item t = is_the_word (codes "P") t || is_the_word (codes "query") t || is_the_word (codes "end") t
+-- `+` or `-`
+abbrev pub is_term_sign : Token → Bool
+is_term_sign t = is_the_sign Plus t || is_the_sign Minus t
+
+-- a number or a `-`
+abbrev pub begins_signed : Token → Bool
+begins_signed t = is_number t || is_the_sign Minus t
+
+-- `P`, `query` or `end`, or what a linear sentence may begin with
+abbrev pub begins_item : Version → Token → Bool
+begins_item v t = is_the_word (codes "P") t || is_the_word (codes "query") t || is_the_word (codes "end") t
+    || (has_linear v && begins_signed t)
 
 -- `=`, `>=`, `<=` or `in`
 abbrev pub is_relation : Token → Bool
@@ -64,32 +85,61 @@ abbrev pub is_group : Opening → Bool
 is_group opening.Group = true
 is_group o = false
 
--- a condition may follow: no `(` of the formula is open, and no `given` stood in this probability
+-- a condition may follow: no `(` of the formula is open, no `given` stood in this probability, and it is no term of a
+-- linear sentence
 abbrev pub may_be_given : State → Bool
-may_be_given d = not (list_any is_group d.opened) && not d.given
+may_be_given d = not (list_any is_group d.opened) && (not d.given && not (is_some d.linear))
 
 -- what may stand behind an operand: a connective, a `)`, or `given` where it may stand
 abbrev pub follows_operand : State → Token → Bool
 follows_operand d t = is_connective t || is_the_sign Close t || (may_be_given d && is_the_word (codes "given") t)
 
--- the version is the number that is spelled `1`
+-- the sign of a further term may follow: the version has such signs, and no `given` stood
+abbrev pub may_be_term : State → Bool
+may_be_term d = has_linear d.version && not d.given
+
+-- a `-` may stand before the number: the sentence is linear, and none stands there
+abbrev pub may_be_minus : State → Bool
+may_be_minus d = is_some d.linear && not d.minus
+
+-- the version is the number that is spelled `1` or `2`
 abbrev pub version_fault : Token → Option ReadKind
-version_fault (Number (Whole ds)) = if bytes_eq ds (codes "1") then None else Some VersionUnknown
+version_fault (Number (Whole ds)) = if bytes_eq ds (codes "1") || bytes_eq ds (codes "2") then None else Some VersionUnknown
 version_fault t = Some VersionUnknown
 
--- a denominator isn't 0, denominator and decimals are within their limits, and the value is at most 1: the first that fails
-abbrev pub value_fault : Numeral → Option ReadKind
-value_fault (Whole ds) = if nat_lt 1 (value ds) then Some NumberOutOfRange else None
-value_fault (Quotient ds es) = if value es == 0 then Some ZeroDenominator
-    else (if nat_lt GREATEST_DENOMINATOR (value es) then Some DenominatorTooLarge
-    else (if nat_lt (value es) (value ds) then Some NumberOutOfRange else None))
-value_fault (Decimal ds es) = if nat_lt MOST_DECIMALS (length es) then Some TooManyDecimals
-    else (if nat_lt (10 ^ length es) (value (ds ++ es)) then Some NumberOutOfRange else None)
+-- the version that a token spells
+abbrev pub version_of : Token → Version
+version_of (Number (Whole ds)) = if bytes_eq ds (codes "2") then Two else One
+version_of t = One
 
--- the fault of a number as a value, if it has one; another token has none
-abbrev pub number_fault : Token → Option ReadKind
-number_fault (Number n) = value_fault n
-number_fault t = None
+-- a denominator isn't 0, denominator and decimals are within their limits, and the value is at most this number: the first
+-- that fails
+abbrev pub value_fault : ℕ → Numeral → Option ReadKind
+value_fault n (Whole ds) = if nat_lt n (value ds) then Some NumberOutOfRange else None
+value_fault n (Quotient ds es) = if value es == 0 then Some ZeroDenominator
+    else (if nat_lt GREATEST_DENOMINATOR (value es) then Some DenominatorTooLarge
+    else (if nat_lt (n * value es) (value ds) then Some NumberOutOfRange else None))
+value_fault n (Decimal ds es) = if nat_lt MOST_DECIMALS (length es) then Some TooManyDecimals
+    else (if nat_lt (n * 10 ^ length es) (value (ds ++ es)) then Some NumberOutOfRange else None)
+
+-- the fault of a number as a value of at most this number, if it has one; another token has none
+abbrev pub number_fault : ℕ → Token → Option ReadKind
+number_fault n (Number x) = value_fault n x
+number_fault n t = None
+
+-- the greatest value of a number in a sentence, by whether it is a linear one
+abbrev pub greatest_value : Option ℕ → ℕ
+greatest_value None = 1
+greatest_value (Some n) = GREATEST_NUMBER
+
+-- how many terms stand so far: the probability of a plain sentence is one
+abbrev pub terms_so_far : Option ℕ → ℕ
+terms_so_far None = 1
+terms_so_far (Some n) = suc n
+
+-- a sign that would begin one term too many is refused
+abbrev pub terms_fault : State → Token → Option ReadKind
+terms_fault d t = if is_term_sign t && not (nat_lt (terms_so_far d.linear) MOST_TERMS) then Some TooManyTerms else None
 
 -- the token opens a nesting of a formula; the `(` behind `P` isn't counted
 abbrev pub opens : Part → Token → Bool
@@ -113,30 +163,72 @@ without_arrows os = os
 
 -- within a formula
 abbrev pub within : Part → State → List Opening → State
-within p d os = record { part = p; query = d.query; given = d.given; opened = os }
+within p d os = record {
+  part = p;
+  query = d.query;
+  given = d.given;
+  opened = os;
+  version = d.version;
+  linear = d.linear;
+  minus = d.minus;
+}
+
+-- behind the left side of a sentence, which keeps whether `given` stood
+abbrev pub on_left : State → State
+on_left d = record {
+  part = part.Relation;
+  query = false;
+  given = d.given;
+  opened = [];
+  version = d.version;
+  linear = d.linear;
+  minus = d.minus;
+}
 
 -- behind the `)` of a probability
-abbrev pub prob_ended : Bool → State
-prob_ended true = outside part.ItemEnd
-prob_ended false = outside part.Relation
+abbrev pub prob_ended : State → State
+prob_ended d = if d.query then in_version d.version part.ItemEnd else on_left d
 
 -- behind a `)`, where no `->` is open any more: it is the probability's, or ends the `(` that was opened last
 abbrev pub closed : State → List Opening → State
-closed d [] = prob_ended d.query
+closed d [] = prob_ended d
 closed d (o ∷ os) = within part.Operator d (without_nots os)
 
--- behind `P`, `query` or `end`
-abbrev pub after_item_word : Token → State
-after_item_word t = if is_the_word (codes "P") t then outside part.Paren
-    else (if is_the_word (codes "query") t then outside part.QueryProb else outside part.TextEnd)
+-- in a linear sentence, behind so many terms
+abbrev pub in_term : Version → ℕ → Part → State
+in_term v n p = record { part = p; query = false; given = false; opened = []; version = v; linear = Some n; minus = false }
+
+-- behind the first token of an item, or `end`
+abbrev pub after_item_start : Version → Token → State
+after_item_start v t = if is_the_word (codes "P") t then in_version v part.Paren
+    else (if is_the_word (codes "query") t then in_version v part.QueryProb
+    else (if is_the_word (codes "end") t then in_version v part.TextEnd
+    else (if is_number t then in_term v 0 part.TermProb else in_term v 0 part.Term)))
 
 -- in a query's probability
-abbrev pub in_query : Part → State
-in_query p = record { part = p; query = true; given = false; opened = [] }
+abbrev pub in_query : Version → Part → State
+in_query v p = record { part = p; query = true; given = false; opened = []; version = v; linear = None; minus = false }
 
--- behind `in` or the symbol of a relation
-abbrev pub after_relation : Token → State
-after_relation t = if is_the_word (codes "in") t then outside part.Bracket else outside part.Number
+-- in the relation of the same sentence, behind a `-` or not
+abbrev pub in_relation : State → Bool → Part → State
+in_relation d m p = record {
+  part = p;
+  query = false;
+  given = false;
+  opened = [];
+  version = d.version;
+  linear = d.linear;
+  minus = m;
+}
+
+-- behind a sign before a term, behind `in` or the symbol of a relation
+abbrev pub after_left : State → Token → State
+after_left d t = if is_term_sign t then in_term d.version (terms_so_far d.linear) part.Term
+    else (if is_the_word (codes "in") t then in_relation d false part.Bracket else in_relation d false part.Number)
+
+-- behind a `-`, or the number that it may stand before
+abbrev pub after_value : State → Token → State → State
+after_value d t behind = if is_the_sign Minus t then in_relation d true d.part else behind
 
 -- `!` and `(` are open from there on; a word is an operand
 abbrev pub after_operand : State → Token → State
@@ -150,12 +242,20 @@ after_operator d (Sign Close) = closed d (without_arrows d.opened)
 after_operator d (Sign Arrow) = within part.Operand d (opening.Arrow ∷ d.opened)
 after_operator d (Sign DoubleArrow) = within part.Operand d (without_arrows d.opened)
 after_operator d (Sign s) = within part.Operand d d.opened
-after_operator d t = record { part = part.Operand; query = d.query; given = true; opened = [] }
+after_operator d t = record {
+  part = part.Operand;
+  query = d.query;
+  given = true;
+  opened = [];
+  version = d.version;
+  linear = d.linear;
+  minus = d.minus;
+}
 
 -- a part's row: the name of what is expected there, the tokens that are, why one of them is refused, and the state
 -- behind one that isn't
 pub record Row : Type 0 where
-  pub what : What
+  pub what : State → What
   pub expects : State → Token → Bool
   pub fault : State → Token → Option ReadKind
   pub next : State → Token → State
@@ -163,101 +263,123 @@ pub record Row : Type 0 where
 -- the table of parts; behind the text no token is expected, and a refusal of the form (`IsRefused`) doesn't come there
 abbrev pub row : Part → Row
 row part.Psat = record {
-  what = what.Psat;
+  what = λ d. what.Psat;
   expects = λ d t. is_the_word (codes "psat") t;
   fault = λ d t. None;
   next = λ d t. outside part.Version;
 }
 row part.Version = record {
-  what = what.Version;
+  what = λ d. what.Version;
   expects = λ d t. is_number t;
   fault = λ d t. version_fault t;
-  next = λ d t. outside part.HeadEnd;
+  next = λ d t. in_version (version_of t) part.HeadEnd;
 }
 row part.HeadEnd = record {
-  what = what.Semicolon;
+  what = λ d. what.Semicolon;
   expects = λ d t. is_the_sign Semicolon t;
   fault = λ d t. None;
-  next = λ d t. outside part.Item;
+  next = λ d t. in_version d.version part.Item;
 }
-row part.Item = record { what = what.Item; expects = λ d t. begins_item t; fault = λ d t. None; next = λ d t. after_item_word t }
+row part.Item = record {
+  what = λ d. if has_linear d.version then what.Item2 else what.Item;
+  expects = λ d t. begins_item d.version t;
+  fault = λ d t. number_fault GREATEST_NUMBER t;
+  next = λ d t. after_item_start d.version t;
+}
 row part.QueryProb = record {
-  what = what.Prob;
+  what = λ d. what.Prob;
   expects = λ d t. is_the_word (codes "P") t;
   fault = λ d t. None;
-  next = λ d t. in_query part.Paren;
+  next = λ d t. in_query d.version part.Paren;
+}
+row part.Term = record {
+  what = λ d. what.Term;
+  expects = λ d t. is_number t || is_the_word (codes "P") t;
+  fault = λ d t. number_fault GREATEST_NUMBER t;
+  next = λ d t. within (if is_number t then part.TermProb else part.Paren) d [];
+}
+row part.TermProb = record {
+  what = λ d. what.Prob;
+  expects = λ d t. is_the_word (codes "P") t;
+  fault = λ d t. None;
+  next = λ d t. within part.Paren d [];
 }
 row part.Paren = record {
-  what = what.Paren;
+  what = λ d. what.Paren;
   expects = λ d t. is_the_sign Open t;
   fault = λ d t. None;
   next = λ d t. within part.Operand d [];
 }
-row part.Operand = record { what = what.Formula; expects = λ d t. begins_operand t; fault = depth_fault; next = after_operand }
-row part.Operator = record { what = what.Operator; expects = follows_operand; fault = depth_fault; next = after_operator }
+row part.Operand = record {
+  what = λ d. what.Formula;
+  expects = λ d t. begins_operand t;
+  fault = depth_fault;
+  next = after_operand;
+}
+row part.Operator = record { what = λ d. what.Operator; expects = follows_operand; fault = depth_fault; next = after_operator }
 row part.Relation = record {
-  what = what.Relation;
-  expects = λ d t. is_relation t;
-  fault = λ d t. None;
-  next = λ d t. after_relation t;
+  what = λ d. what.Relation;
+  expects = λ d t. is_relation t || (may_be_term d && is_term_sign t);
+  fault = terms_fault;
+  next = after_left;
 }
 row part.Number = record {
-  what = what.Number;
-  expects = λ d t. is_number t;
-  fault = λ d t. number_fault t;
-  next = λ d t. outside part.ItemEnd;
+  what = λ d. what.Number;
+  expects = λ d t. is_number t || (may_be_minus d && is_the_sign Minus t);
+  fault = λ d t. number_fault (greatest_value d.linear) t;
+  next = λ d t. after_value d t (in_version d.version part.ItemEnd);
 }
 row part.Bracket = record {
-  what = what.Bracket;
+  what = λ d. what.Bracket;
   expects = λ d t. is_the_sign OpenBracket t;
   fault = λ d t. None;
-  next = λ d t. outside part.First;
+  next = λ d t. in_relation d false part.First;
 }
 row part.First = record {
-  what = what.Number;
-  expects = λ d t. is_number t;
-  fault = λ d t. number_fault t;
-  next = λ d t. outside part.Comma;
+  what = λ d. what.Number;
+  expects = λ d t. is_number t || (may_be_minus d && is_the_sign Minus t);
+  fault = λ d t. number_fault (greatest_value d.linear) t;
+  next = λ d t. after_value d t (in_relation d false part.Comma);
 }
 row part.Comma = record {
-  what = what.Comma;
+  what = λ d. what.Comma;
   expects = λ d t. is_the_sign Comma t;
   fault = λ d t. None;
-  next = λ d t. outside part.Second;
+  next = λ d t. in_relation d false part.Second;
 }
 row part.Second = record {
-  what = what.Number;
-  expects = λ d t. is_number t;
-  fault = λ d t. number_fault t;
-  next = λ d t. outside part.BracketEnd;
+  what = λ d. what.Number;
+  expects = λ d t. is_number t || (may_be_minus d && is_the_sign Minus t);
+  fault = λ d t. number_fault (greatest_value d.linear) t;
+  next = λ d t. after_value d t (in_relation d false part.BracketEnd);
 }
 row part.BracketEnd = record {
-  what = what.BracketEnd;
+  what = λ d. what.BracketEnd;
   expects = λ d t. is_the_sign CloseBracket t;
   fault = λ d t. None;
-  next = λ d t. outside part.ItemEnd;
+  next = λ d t. in_version d.version part.ItemEnd;
 }
 row part.ItemEnd = record {
-  what = what.Semicolon;
+  what = λ d. what.Semicolon;
   expects = λ d t. is_the_sign Semicolon t;
   fault = λ d t. None;
-  next = λ d t. outside part.Item;
+  next = λ d t. in_version d.version part.Item;
 }
 row part.TextEnd = record {
-  what = what.Semicolon;
+  what = λ d. what.Semicolon;
   expects = λ d t. is_the_sign Semicolon t;
   fault = λ d t. None;
   next = λ d t. outside part.Done;
 }
-row part.Done = record { what = what.Psat; expects = λ d t. false; fault = λ d t. None; next = λ d t. outside part.Done }
+row part.Done = record { what = λ d. what.Psat; expects = λ d t. false; fault = λ d t. None; next = λ d t. outside part.Done }
 
 -- whether the token is one that is expected
 abbrev pub is_expected : State → Token → Bool
 is_expected d t = (row d.part).expects d t
 
 -- the name of what is expected
-abbrev pub what_at : Part → What
-what_at p = (row p).what
+abbrev pub what_at : State → What
+what_at d = (row d.part).what d
 
 -- why a token that is expected is refused
 abbrev pub fault_at : Part → State → Token → Option ReadKind
@@ -268,10 +390,17 @@ abbrev pub is_too_long : Token → Bool
 is_too_long (Word w) = nat_lt LONGEST_WORD (length w)
 is_too_long t = false
 
+-- `+` and `-` are no tokens of version 1
+abbrev pub is_foreign : Version → Token → Bool
+is_foreign v (Sign Plus) = not (has_linear v)
+is_foreign v (Sign Minus) = not (has_linear v)
+is_foreign v t = false
+
 -- why the token is refused, by the first reason, if it is
 unfoldable pub refusal : State → Token → Option ReadKind
-refusal d t = if is_too_long t then Some NameTooLong
-    else (if not (is_expected d t) then Some (Expected (what_at d.part)) else fault_at d.part d t)
+refusal d t = if is_foreign d.version t then Some BadByte
+    else (if is_too_long t then Some NameTooLong
+    else (if not (is_expected d t) then Some (Expected (what_at d)) else fault_at d.part d t))
 
 -- the state behind a token that isn't refused
 unfoldable pub after : State → Token → State

@@ -2,7 +2,7 @@
 use Rattle.std.specs.Prelude.{◌≡◌, ℕ, List, length}
 use Rattle.ps_meaning.specs.Statements.{Item}
 use Rattle.ps_text.specs.Tokens.{Token}
-use Rattle.ps_text.specs.Grammar.{ItemSyntax, AreWellFormedItems, text_tokens}
+use Rattle.ps_text.specs.Grammar.{ItemSyntax, TextSyntax, IsWellFormedText, text_tokens}
 use Rattle.ps_text.specs.Meanings.{AreItems}
 use Rattle.ps_text.specs.Fronts.{IsFront}
 use Rattle.ps_text.specs.declared.kind.ReadKind.{ReadKind}
@@ -10,7 +10,7 @@ use Rattle.ps_text.specs.Refusals.{IsRefused}
 
 -- the tokens are those of one derivation at most
 pub record HasOneDerivation (tokens : List Token) : Type 0 where
-  pub same : (es fs : List ItemSyntax) → AreWellFormedItems es → AreWellFormedItems fs → tokens ≡ text_tokens es
+  pub same : (es fs : TextSyntax) → IsWellFormedText es → IsWellFormedText fs → tokens ≡ text_tokens es
       → tokens ≡ text_tokens fs → es ≡ fs
 
 -- what is written means one list of items at most

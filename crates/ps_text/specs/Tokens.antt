@@ -1,15 +1,11 @@
 -- Tokens, and the bytes that spell them.
-use Rattle.std.specs.Prelude.{◌≡◌, ℕ, ◌≤◌, Bool, true, false, bytes_eq, List, [], ◌∷◌, ◌++◌, length, IsTrue, codes}
+use Rattle.std.specs.Prelude.{◌≡◌, ℕ, ◌≤◌, Bool, false, bytes_eq, List, [], ◌∷◌, ◌++◌, length, IsTrue, codes}
 use Rattle.std.specs.List.{AllByRecursion}
 pub use Rattle.ps_meaning.specs.Names.{is_letter, is_digit, is_word_byte}
 pub use Rattle.ps_text.specs.declared.symbol.Symbol.{Symbol}
 pub use Rattle.ps_text.specs.declared.symbol.Symbol.TheVariants.{Open, Close, OpenBracket, CloseBracket, Comma}
 pub use Rattle.ps_text.specs.declared.symbol.Symbol.TheVariants.{Semicolon, Bang, Ampersand, Bar, Arrow}
-pub use Rattle.ps_text.specs.declared.symbol.Symbol.TheVariants.{DoubleArrow, Equals, GreaterEquals, LessEquals}
-
--- a version of the text
-pub data Version : Type 0 where
-  One : Version
+pub use Rattle.ps_text.specs.declared.symbol.Symbol.TheVariants.{DoubleArrow, Equals, GreaterEquals, LessEquals, Plus, Minus}
 
 -- a number as it is spelled: digits, digits over digits, or digits and decimals
 pub data Numeral : Type 0 where
@@ -39,15 +35,11 @@ IsNumeral (Whole ds) = AreDigits ds
 IsNumeral (Quotient ds es) = AreDigits ds × AreDigits es
 IsNumeral (Decimal ds es) = AreDigits ds × AreDigits es
 
--- the version has this symbol
-abbrev pub has_symbol : Version → Symbol → Bool
-has_symbol One s = true
-
--- a token of the version
-abbrev pub IsToken : Version → Token → Type 0
-IsToken v (Word w) = IsWord w
-IsToken v (Number n) = IsNumeral n
-IsToken v (Sign s) = IsTrue (has_symbol v s)
+-- a token of some version
+abbrev pub IsToken : Token → Type 0
+IsToken (Word w) = IsWord w
+IsToken (Number n) = IsNumeral n
+IsToken (Sign s) = Unit {0}
 
 -- the bytes of a number: `/` before the denominator, `.` before the decimals
 abbrev pub numeral_spelling : Numeral → List ℕ
@@ -71,6 +63,8 @@ symbol_spelling DoubleArrow = codes "<->"
 symbol_spelling Equals = codes "="
 symbol_spelling GreaterEquals = codes ">="
 symbol_spelling LessEquals = codes "<="
+symbol_spelling Plus = codes "+"
+symbol_spelling Minus = codes "-"
 
 -- the bytes of a token
 abbrev pub spelling : Token → List ℕ
@@ -88,11 +82,11 @@ abbrev pub is_the_sign : Symbol → Token → Bool
 is_the_sign s (Sign u) = bytes_eq (symbol_spelling u) (symbol_spelling s)
 is_the_sign s t = false
 
--- no longer token of the version stands where this one does, before these bytes
-unfoldable pub IsLongest : Version → Token → List ℕ → Type 0
-IsLongest v t after = (u : Token) (more : List ℕ) → IsToken v u → spelling u ++ more ≡ spelling t ++ after
+-- no longer token stands where this one does, before these bytes
+unfoldable pub IsLongest : Token → List ℕ → Type 0
+IsLongest t after = (u : Token) (more : List ℕ) → IsToken u → spelling u ++ more ≡ spelling t ++ after
     → length (spelling u) ≤ length (spelling t)
 
--- no token of the version stands at the front
-unfoldable pub BeginsNone : Version → List ℕ → Type 0
-BeginsNone v bytes = (u : Token) (more : List ℕ) → IsToken v u → bytes ≡ spelling u ++ more → ⊥
+-- no token stands at the front
+unfoldable pub BeginsNone : List ℕ → Type 0
+BeginsNone bytes = (u : Token) (more : List ℕ) → IsToken u → bytes ≡ spelling u ++ more → ⊥

@@ -9,9 +9,13 @@ pub enum What {
     Version,
     /// `;`, behind the version, a relation, a query's probability and `end`.
     Semicolon,
-    /// `P`, `query` or `end`.
+    /// `P`, `query` or `end`, in version 1.
     Item,
-    /// `P`, behind `query`.
+    /// A sentence, `query` or `end`, in version 2.
+    Item2,
+    /// A number or `P`, behind the sign before a term.
+    Term,
+    /// `P`, behind `query` and behind a coefficient.
     Prob,
     /// `(`, behind `P`.
     Paren,
@@ -36,13 +40,13 @@ pub enum What {
 #[derive(Clone, Copy, Debug, PartialEq, Eq)]
 pub enum ReadKind {
     // Of the form.
-    /// No token begins with the byte.
+    /// No token of the version begins with the byte.
     BadByte,
     /// The token isn't one that is expected.
     Expected(What),
     /// A word of more than `LONGEST_WORD` bytes.
     NameTooLong,
-    /// The version isn't spelled `1`.
+    /// The version isn't spelled `1` or `2`.
     VersionUnknown,
     /// A denominator of 0.
     ZeroDenominator,
@@ -50,10 +54,12 @@ pub enum ReadKind {
     DenominatorTooLarge,
     /// More than `MOST_DECIMALS` digits behind the point.
     TooManyDecimals,
-    /// A value of more than 1.
+    /// A value of more than 1, or of more than `GREATEST_NUMBER` in a linear sentence.
     NumberOutOfRange,
     /// The token would open one nesting more than `MOST_OPEN`.
     TooDeep,
+    /// The token would begin one term more than `MOST_TERMS`.
+    TooManyTerms,
     /// The bytes end where a token is expected.
     EndMissing,
     // Of a count.
@@ -65,6 +71,8 @@ pub enum ReadKind {
     TooManyBounds,
     /// With the item there are more queries than a problem may have.
     TooManyQueries,
+    /// The whole numbers of a linear sentence are too large.
+    LinearTooLarge,
     // Behind the text.
     /// Something follows the text and the blanks behind it.
     MoreAfterEnd,

@@ -1,9 +1,14 @@
 //! Laws about the definitions: a call does nothing, and its clauses are the law.
-ghost use Rattle.std.specs.Prelude.{◌≡◌, List, ℕ, []};
+ghost use Rattle.std.specs.Prelude.{◌≡◌, ◌↔◌, List, ℕ, []};
 ghost use Rattle.ps_text.specs.Tokens.{Token};
-ghost use Rattle.ps_text.specs.Pieces.{Cut};
-ghost use Rattle.ps_text.specs.Grammar.{ItemSyntax, AreWellFormedItems, IsDerived, text_tokens};
-ghost use Rattle.ps_text.specs.ExpectedTokens.{AreExpected, at_start};
+ghost use Rattle.ps_text.specs.Pieces.{Piece, Cut, Cuts, IsBare, tokens};
+ghost use Rattle.ps_text.specs.declared.version.Version.{Version};
+ghost use Rattle.ps_text.specs.Grammar.{ItemSyntax, TextSyntax, AreWellFormedItems, IsDerived};
+ghost use Rattle.ps_text.specs.Grammar.{IsWellFormedText, text_tokens};
+ghost use Rattle.ps_text.specs.ExpectedTokens.{State, AreExpected, Passes, at_start};
+ghost use Rattle.ps_text.specs.declared.kind.ReadKind.{ReadKind};
+ghost use Rattle.ps_text.specs.Refusals.{Why};
+ghost use Rattle.ps_text.specs.Versions.{PassIsRead, WhyIsTheVersions, IsPlain};
 ghost use Rattle.ps_text.specs.PartialParses.{Parse, InPsat, state_of, parsed_tokens};
 ghost use Rattle.ps_text.specs.PartialParses.{TakesToken};
 ghost use Rattle.ps_meaning.specs.Statements.{Item, statements_of, questions_of};
@@ -17,8 +22,7 @@ ghost use Rattle.ps_text.specs.Canonical.{canonical_text, sentences_first, AreLa
 /// such text's tokens are refused nowhere.
 pub fn expected_tokens_are_derived()
     ensures derived { (tokens : List Token) → AreExpected tokens → IsDerived tokens }
-    ensures expected { (es : List ItemSyntax) → AreWellFormedItems es
-        → AreExpected (text_tokens es) }
+    ensures expected { (es : TextSyntax) → IsWellFormedText es → AreExpected (text_tokens es) }
 {}
 
 /// A derivation of the tokens so far begins with none of them, and takes each further token that
@@ -34,6 +38,16 @@ pub fn bytes_are_cut()
     ensures { (bytes : List ℕ) → Cut bytes }
 {}
 
+/// `+` and `-` are tokens in version 2 alone, and in version 1 nothing is expected of what is
+/// linear. Bytes are cut, and tokens pass, as they do by the tokens of the version that is known
+/// where they stand; and what is left is refused there for the same kind, where no blank and no
+/// comment stands.
+pub fn tokens_are_the_versions()
+    ensures read { PassIsRead }
+    ensures refused { WhyIsTheVersions }
+    ensures plain { (tokens : List Token) (d : State) → Passes at_start tokens d → IsPlain d }
+{}
+
 /// At most one text stands at the front of some bytes: its derivation, its meaning and the place
 /// behind it are the only ones.
 pub fn one_text_stands_at_the_front()
@@ -43,7 +57,7 @@ pub fn one_text_stands_at_the_front()
 
 /// What is written means one list of items at most.
 pub fn texts_have_one_meaning()
-    ensures { (written : List ItemSyntax) → AreWellFormedItems written → HaveOneMeaning written }
+    ensures { (v : Version) (es : List ItemSyntax) → AreWellFormedItems v es → HaveOneMeaning es }
 {}
 
 /// Where a text stands at the front, the form isn't refused.

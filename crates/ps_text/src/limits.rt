@@ -2,6 +2,7 @@
 ghost use Rattle.std.specs.Prelude.{◌≡◌};
 ghost use Rattle.ps_text.specs.declared.limits.TheConstants.{LONGEST_WORD, MOST_OPEN};
 ghost use Rattle.ps_text.specs.declared.limits.TheConstants.{GREATEST_DENOMINATOR, MOST_DECIMALS};
+ghost use Rattle.ps_text.specs.declared.limits.TheConstants.{GREATEST_NUMBER, MOST_TERMS};
 
 use ps_meaning::LONGEST_NAME;
 
@@ -17,10 +18,18 @@ pub const GREATEST_DENOMINATOR: u32 = 1_000_000;
 /// The most digits behind the point.
 pub const MOST_DECIMALS: u8 = 6;
 
+/// The greatest number of a linear sentence.
+pub const GREATEST_NUMBER: u32 = 1_000_000;
+
+/// The most terms of a linear sentence.
+pub const MOST_TERMS: u8 = 16;
+
 /// The limits by their numbers.
 pub fn limits_have_these_numbers()
     ensures word { LONGEST_WORD ≡ 32 }
     ensures open { MOST_OPEN ≡ 100 }
     ensures denominator { GREATEST_DENOMINATOR ≡ 1000000 }
     ensures decimals { MOST_DECIMALS ≡ 6 }
+    ensures number { GREATEST_NUMBER ≡ 1000000 }
+    ensures terms { MOST_TERMS ≡ 16 }
 {}

@@ -9,17 +9,22 @@ pub enum Part {
     Version,
     /// The `;` behind the version.
     HeadEnd,
-    /// `P`, `query` or `end`.
+    /// The first token of an item, or `end`.
     Item,
     /// The `P` behind `query`.
     QueryProb,
+    /// A term of a linear sentence, behind the sign before it.
+    Term,
+    /// The `P` behind a coefficient.
+    TermProb,
     /// The `(` behind `P`.
     Paren,
     /// The next operand of a formula.
     Operand,
     /// What stands behind an operand.
     Operator,
-    /// The relation behind the probability of a sentence.
+    /// The relation behind the probability of a sentence or behind a term, or the sign before the
+    /// next term.
     Relation,
     /// The number of a relation with one bound.
     Number,

@@ -31,4 +31,8 @@ pub enum Symbol {
     GreaterEquals,
     /// `<=`.
     LessEquals,
+    /// `+`.
+    Plus,
+    /// `-`.
+    Minus,
 }

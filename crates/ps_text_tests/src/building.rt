@@ -2,7 +2,7 @@
 ghost use Rattle.std.specs.Prelude.{◌≡◌, [], IfOk, OnOk, length};
 
 use ps_io::NoMemory;
-use ps_problem::{Bound, BuildError, Draft, Mark, Problem, Query, Side, build};
+use ps_problem::{Bound, BoundAt, BuildError, Draft, Mark, Problem, Query, Side, build};
 use std::alloc::Global;
 use std::test::Fail;
 
@@ -61,6 +61,14 @@ fn bound(formula: u32, given: Option<u32>, both: u32, side: Side, den: u32) -> B
     }
 }
 
+// Whether the bound of a number is this plain one.
+fn has_bound(problem: &Problem, number: u32, bound: Bound) -> bool {
+    match problem.bound(number) {
+        Some(BoundAt::Plain(found)) => *found == bound,
+        _ => false,
+    }
+}
+
 // Whether the names, bounds and query are those that `a_problem` was made of.
 fn is_as_written(problem: &Problem) -> bool {
     let query = Query {
@@ -70,9 +78,9 @@ fn is_as_written(problem: &Problem) -> bool {
     };
     problem.name(0) == Some(b"a".as_slice())
         && problem.name(1) == Some(b"b".as_slice())
-        && problem.bound(1) == Some(&bound(1, Some(2), 3, Side::AtLeast, 4))
-        && problem.bound(2) == Some(&bound(1, Some(2), 3, Side::AtMost, 2))
-        && problem.bound(3) == Some(&bound(1, None, 1, Side::AtLeast, 2))
+        && has_bound(problem, 1, bound(1, Some(2), 3, Side::AtLeast, 4))
+        && has_bound(problem, 2, bound(1, Some(2), 3, Side::AtMost, 2))
+        && has_bound(problem, 3, bound(1, None, 1, Side::AtLeast, 2))
         && problem.queries().get(0) == Some(&query)
 }
 

@@ -84,6 +84,35 @@ const QUERIES: [(&[u8], &[u8]); 2] = [
     (b"psat 1;end; # nothing", b"psat 1;\nend;\n"),
 ];
 
+const SUMS: [(&[u8], &[u8]); 6] = [
+    (
+        b"psat 2; -P(a)+2P(b)<=-0.5; end;",
+        b"psat 2;\n- 1 P(a) + 2 P(b) <= -1/2;\nend;\n",
+    ),
+    (
+        b"psat 2; query P(a); 1P(a)=1/2; P(b given a) = 1; end;",
+        b"psat 2;\n1 P(a) = 1/2;\nP(b given a) = 1;\nquery P(a);\nend;\n",
+    ),
+    (
+        b"psat 2; 6/8 P((a | b)) - 0.5 P(!(c)) in [-1, 0.50]; end;",
+        b"psat 2;\n3/4 P(a | b) - 1/2 P(!c) in [-1, 1/2];\nend;\n",
+    ),
+    (
+        b"psat 2; P(a) + P(a) - 10/4 P(b) >= 2/3; end;",
+        b"psat 2;\n1 P(a) + 1 P(a) - 5/2 P(b) >= 2/3;\nend;\n",
+    ),
+    // A 0 has no sign.
+    (
+        b"psat 2; -0 P(a) - 0/3 P(b) >= -0.0; end;",
+        b"psat 2;\n0 P(a) + 0 P(b) >= 0;\nend;\n",
+    ),
+    // A text without a linear sentence is one of version 1.
+    (
+        b"psat 2; P(a) = 0.5; query P(a); end;",
+        b"psat 1;\nP(a) = 1/2;\nquery P(a);\nend;\n",
+    ),
+];
+
 // Whether the canonical text of the problem that a text spells is this one.
 fn is_canonical(alloc: Global, text: &[u8], expected: &[u8]) -> bool {
     if text.len() > 1000 {
@@ -131,6 +160,11 @@ fn arrows_join_to_the_right(rt: HostRuntime) {
 #[test]
 fn values_are_in_lowest_terms(rt: HostRuntime) {
     assert!(rt; are_canonical(rt.alloc(), &VALUES));
+}
+
+#[test]
+fn terms_have_coefficients(rt: HostRuntime) {
+    assert!(rt; are_canonical(rt.alloc(), &SUMS));
 }
 
 #[test]

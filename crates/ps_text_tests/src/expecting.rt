@@ -1,6 +1,7 @@
 //! Texts worked out by hand from the tables of refusals and of what is expected.
 mod depths;
 mod reading;
+mod sums;
 
 use self::reading::{Answer, read};
 use ps_text::{Part, ReadKind, What};
@@ -92,8 +93,10 @@ const LONG_WORDS: [&[u8]; 8] = [
     b"psat 1; end aaaaaaaaaaaaaaaaaaaaaaaaaaaaaaaaa",
 ];
 
-const VERSIONS: [&[u8]; 7] = [
-    b"psat 2",
+const VERSIONS: [&[u8]; 9] = [
+    b"psat 3",
+    b"psat 02",
+    b"psat 2/1",
     b"psat 0",
     b"psat 01",
     b"psat 11",

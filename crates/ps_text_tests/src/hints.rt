@@ -6,6 +6,7 @@ mod item_rows;
 mod letter_rows;
 mod lines;
 mod number_rows;
+mod sum_rows;
 mod table;
 mod texts;
 mod warnings;
@@ -58,6 +59,12 @@ fn errors_in_formulas_have_hints(rt: HostRuntime) -> Result<(), Fail> {
 #[test]
 fn errors_in_numbers_have_hints(rt: HostRuntime) -> Result<(), Fail> {
     assert_eq!(rt; wrong_rows(rt.alloc(), &number_rows::ROWS), 0);
+    Ok(())
+}
+
+#[test]
+fn errors_in_sums_have_hints(rt: HostRuntime) -> Result<(), Fail> {
+    assert_eq!(rt; wrong_rows(rt.alloc(), &sum_rows::ROWS), 0);
     Ok(())
 }
 

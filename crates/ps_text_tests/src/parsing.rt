@@ -3,14 +3,24 @@ mod reading;
 
 use self::reading::parsed;
 use ps_formula::Node;
-use ps_problem::{Bound, Problem, Side, build};
+use ps_problem::{Bound, BoundAt, Linear, Problem, Side, build};
 use ps_read::{ParseError, Parser};
 use ps_text::{Part, ReadKind, What};
 use std::alloc::Global;
 use std::test::Fail;
 
 // Texts, and the nodes of their problems.
-const FORMULAS: [(&[u8], &[Node]); 12] = [
+const FORMULAS: [(&[u8], &[Node]); 13] = [
+    (
+        b"psat 2; 2 P(a & b) - 1/3 P(c) + P(b) >= 1/2; query P(c given a); end;",
+        &[
+            Node::Atom(0),
+            Node::Atom(1),
+            Node::And(0, 1),
+            Node::Atom(2),
+            Node::And(3, 0),
+        ],
+    ),
     (
         b"psat 1; P(a -> b -> c) = 1; end;",
         &[
@@ -157,6 +167,41 @@ const CONDITIONS: [(&[u8], u32, (u32, Option<u32>, u32)); 4] = [
     ),
 ];
 
+// A linear sentence's scale, terms, side, right side and upper right side.
+type Numbers = (u32, &'static [(u32, i64)], Side, i64, Option<i64>);
+
+// Texts of one linear sentence, and its numbers.
+const SUMS: [(&[u8], Numbers); 7] = [
+    (
+        b"psat 2; 2 P(a) - 1/3 P(b) >= 1/2; end;",
+        (6, &[(0, 12), (1, -2)], Side::AtLeast, 3, None),
+    ),
+    (
+        b"psat 2; P(a)-P(b) in [-1/4, 0.5]; end;",
+        (4, &[(0, 4), (1, -4)], Side::AtLeast, -1, Some(2)),
+    ),
+    (
+        b"psat 2; -P(a)+2P(b)<=-0.5; end;",
+        (2, &[(0, -2), (1, 4)], Side::AtMost, -1, None),
+    ),
+    (
+        b"psat 2; 1 P(a) = 1/2; end;",
+        (2, &[(0, 2)], Side::Exactly, 1, None),
+    ),
+    (
+        b"psat 2; 6/8 P(a) + P(a) >= 2/2; end;",
+        (4, &[(0, 3), (0, 4)], Side::AtLeast, 4, None),
+    ),
+    (
+        b"psat 2; 1/2 P(a) + 0.5 P(!a) = 1; end;",
+        (2, &[(0, 1), (1, 1)], Side::Exactly, 2, None),
+    ),
+    (
+        b"psat 2; 0 P(a) >= -0; end;",
+        (1, &[(0, 0)], Side::AtLeast, 0, None),
+    ),
+];
+
 // Texts, and where their items' first tokens stand.
 const PLACES: [(&[u8], &[(u32, u32)]); 3] = [
     (b"psat 1; end;", &[]),
@@ -167,8 +212,12 @@ const PLACES: [(&[u8], &[(u32, u32)]); 3] = [
     (b"psat 1; # P(a) = 1;\nquery P(a", &[(2, 1)]),
 ];
 
-const REFUSED: [(&[u8], ReadKind); 5] = [
-    (b"psat 2;", ReadKind::VersionUnknown),
+const REFUSED: [(&[u8], ReadKind); 6] = [
+    (b"psat 3;", ReadKind::VersionUnknown),
+    (
+        b"psat 2; P(a) + P(b given c)",
+        ReadKind::Expected(What::Operator),
+    ),
     (b"psat 1; P(a = 1;", ReadKind::Expected(What::Operator)),
     (
         b"psat 1; P(a given b given c)",
@@ -204,9 +253,32 @@ fn are_formulas_parsed(alloc: Global) -> Result<bool, Fail> {
     Ok(true)
 }
 
-// The bound of this number in a text.
+// The plain bound of this number in a text.
 fn bound(alloc: Global, text: &[u8], number: u32) -> Result<Bound, Fail> {
-    Ok(*problem(alloc, text)?.bound(number).ok_or("a bound")?)
+    match problem(alloc, text)?.bound(number) {
+        Some(BoundAt::Plain(bound)) => Ok(*bound),
+        _ => Err("a plain bound".into()),
+    }
+}
+
+// Whether a linear sentence has these numbers.
+fn has_numbers(linear: &Linear, numbers: Numbers) -> bool {
+    let (scale, terms, side, right, upper) = numbers;
+    linear.scale == scale
+        && linear.terms.as_slice() == terms
+        && linear.side == side
+        && linear.right == right
+        && linear.upper == upper
+}
+
+fn are_sums_parsed(alloc: Global) -> Result<bool, Fail> {
+    for (text, numbers) in SUMS {
+        match problem(alloc, text)?.bound(1) {
+            Some(BoundAt::Linear { of, upper: false }) if has_numbers(of, numbers) => {}
+            _ => return Ok(false),
+        }
+    }
+    Ok(true)
 }
 
 fn are_values_parsed(alloc: Global) -> Result<bool, Fail> {
@@ -265,6 +337,12 @@ fn formulas_are_parsed(rt: HostRuntime) -> Result<(), Fail> {
 #[test]
 fn bounds_are_parsed(rt: HostRuntime) -> Result<(), Fail> {
     assert!(rt; are_values_parsed(rt.alloc())? && are_conditions_parsed(rt.alloc())?);
+    Ok(())
+}
+
+#[test]
+fn linear_sentences_are_parsed(rt: HostRuntime) -> Result<(), Fail> {
+    assert!(rt; are_sums_parsed(rt.alloc())?);
     Ok(())
 }
 

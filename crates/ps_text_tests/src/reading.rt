@@ -28,7 +28,7 @@ fn read_all(alloc: Global, text: &[u8]) -> Result<Result<u32, (ReadKind, u32, u3
 }
 
 // Texts, how many bounds they state, and where they and the blanks behind them end.
-const READ: [(&[u8], u32, u64); 10] = [
+const READ: [(&[u8], u32, u64); 13] = [
     (b"psat 1;end;", 0, 11),
     (b"psat 1;\nend;\n", 0, 13),
     (b"psat 1; end; # the end", 0, 22),
@@ -51,13 +51,16 @@ const READ: [(&[u8], u32, u64); 10] = [
         1,
         53,
     ),
+    (b"psat 2; 1000000 P(a) + 1000000 P(b) >= 0; end;", 1, 46),
+    (b"psat 2; P(a)-P(b) in [-1/2, 0.5]; end;\n", 2, 39),
+    (b"psat 2; 1000000 P(a) + 999999 P(b) in [0, 1]; end;", 2, 50),
 ];
 
-const REFUSED: [(&[u8], ReadKind, u32, u32); 26] = [
+const REFUSED: [(&[u8], ReadKind, u32, u32); 33] = [
     (b"", ReadKind::EndMissing, 1, 1),
     (b"psat 1;\n", ReadKind::EndMissing, 2, 1),
     (b"psat 1; end # ;", ReadKind::EndMissing, 1, 16),
-    (b"psat 2;", ReadKind::VersionUnknown, 1, 6),
+    (b"psat 3;", ReadKind::VersionUnknown, 1, 6),
     (b"psat 01;", ReadKind::VersionUnknown, 1, 6),
     (b"\n psot", ReadKind::Expected(What::Psat), 2, 2),
     (b"psat 1;\nP(a) = 3/;", ReadKind::NumberOutOfRange, 2, 8),
@@ -135,6 +138,44 @@ const REFUSED: [(&[u8], ReadKind, u32, u32); 26] = [
     (b"psat 1;\n\tP(a) = 3/2;", ReadKind::NumberOutOfRange, 2, 9),
     (b"psat 1;\r\nP(a) = 3/2;", ReadKind::NumberOutOfRange, 2, 8),
     (b"psat 1;\rP(a) = 3/2;", ReadKind::NumberOutOfRange, 1, 16),
+    (
+        b"psat 2;\n1000000 P(a) + 1000000 P(b) >= 1;\nend;",
+        ReadKind::LinearTooLarge,
+        2,
+        1,
+    ),
+    (
+        b"psat 2;\n1/1000000 P(a) + 1/999999 P(b) >= 0;\nend;",
+        ReadKind::LinearTooLarge,
+        2,
+        1,
+    ),
+    // Of an interval one bound too large is enough.
+    (
+        b"psat 2;\nP(a) = 1; 1000000 P(a) + 999999 P(b) in [0, 2];\nend;",
+        ReadKind::LinearTooLarge,
+        2,
+        11,
+    ),
+    (
+        b"psat 2;\n1/2 P(a) >= 1/500001;\nend;",
+        ReadKind::LinearTooLarge,
+        2,
+        1,
+    ),
+    (
+        b"psat 2;\nP(a) - 1 >= 0;",
+        ReadKind::Expected(What::Prob),
+        2,
+        10,
+    ),
+    (
+        b"psat 2;\nP(a) - P(b given c) >= 0;",
+        ReadKind::Expected(What::Operator),
+        2,
+        12,
+    ),
+    (b"psat 1;\nP(a) + P(b) <= 1;", ReadKind::BadByte, 2, 6),
     // A comment ends before its line feed.
     (
         b"psat 1; # x\nP(a) = 3/2;",
@@ -162,8 +203,8 @@ const ATOMS: &[u8] =
     s2|t2|u2|v2|w2|x2|y2|z2|a3|b3|c3|d3|e3|f3|g3|h3|i3|j3|k3|l3|m3|n3|o3|p3|q3|r3|s3|t3|u3|\
     v3|w3|x3";
 
-// Pieces, each with how often it stands, and what is read of them between `psat 1;` and `end;`.
-const COUNTED: [(&[(&[u8], u32)], Result<u32, (ReadKind, u32, u32)>); 12] = [
+// Pieces, each with how often it stands, and what is read of them between `psat 2;` and `end;`.
+const COUNTED: [(&[(&[u8], u32)], Result<u32, (ReadKind, u32, u32)>); 17] = [
     (&[(b"P(a) >= 0;\n", 100)], Ok(100)),
     (
         &[(b"P(a) >= 0;\n", 101)],
@@ -193,6 +234,32 @@ const COUNTED: [(&[(&[u8], u32)], Result<u32, (ReadKind, u32, u32)>); 12] = [
     (
         &[(b"P(", 1), (ATOMS, 1), (b"|z3) >= 0;\n", 1)],
         Err((ReadKind::TooManyAtoms, 2, 1)),
+    ),
+    // A linear sentence has one bound, and as an interval two.
+    (&[(b"P(a) + P(b) in [0, 1];\n", 50)], Ok(100)),
+    (
+        &[(b"2 P(a) >= 0;\n", 100), (b"P(a) - P(b) >= 0;\n", 1)],
+        Err((ReadKind::TooManyBounds, 102, 1)),
+    ),
+    // Its numbers are tried before the counts of bounds, atoms and nodes.
+    (
+        &[
+            (b"P(a) >= 0;\n", 100),
+            (b"1000000 P(a) >= 1000001/1000000;\n", 1),
+        ],
+        Err((ReadKind::LinearTooLarge, 102, 1)),
+    ),
+    (
+        &[
+            (b"2000000/2 P(", 1),
+            (ATOMS, 1),
+            (b"|z3) + 1 P(a) >= 1/3;\n", 1),
+        ],
+        Err((ReadKind::LinearTooLarge, 2, 1)),
+    ),
+    (
+        &[(b"2000000/2 P(a", 1), (b"|a", 1024), (b") >= 1/3;\n", 1)],
+        Err((ReadKind::LinearTooLarge, 2, 1)),
     ),
     (&[(b"P(a", 1), (b"|a", 1023), (b") >= 0;\n", 1)], Ok(1)),
     (
@@ -234,7 +301,7 @@ fn more_is_refused(alloc: Global) -> Result<bool, Fail> {
 // A text of these pieces.
 fn text_of(alloc: Global, pieces: &[(&[u8], u32)]) -> Result<Vec<u8>, Fail> {
     let mut text = Vec::new(alloc);
-    text.extend_from_slice(b"psat 1;\n")?;
+    text.extend_from_slice(b"psat 2;\n")?;
     for (piece, count) in pieces {
         for _ in 0..*count {
             text.extend_from_slice(piece)?;

@@ -21,8 +21,8 @@ use Rattle.ps_claims.specs.Claims.{Assertion, Bounded, HasShape, IsModelRight, I
 use Rattle.ps_claims.proofs.Claims.{first_of_dual}
 use Rattle.ps_claims.proofs.Decided.{bounded-valid}
 use Rattle.ps_valid.specs.Judged.{FindsReason}
-use Rattle.ps_valid.specs.declared.truth.Row.{Row}
-use Rattle.ps_valid.specs.Rows.{IsTableOf, node_at, row_entries}
+use Rattle.ps_valid.specs.declared.truth.Valuation.{Valuation}
+use Rattle.ps_valid.specs.Valuations.{IsTableOf, node_at, valued_entries}
 use Rattle.ps_valid.specs.Aims.{aim_of}
 use Rattle.ps_valid.specs.DualTests.{FindsInDual}
 use Rattle.ps_valid.specs.Tests.{HaveShape, IsFirstAgainst, evidence_weight, GivesValue}
@@ -31,14 +31,14 @@ use Rattle.ps_valid.proofs.ModelFaults.{first_in_model}
 use Rattle.ps_valid.proofs.Tables.{weight-node, weight-given, weight-both}
 
 -- the weight of a query's evidence in a model, by the truth of each node
-pub evidence_is : (p : Parts) (q : Query) (m : Model) (rows : List Row) (e : ℤ) → HasNodes p.nodes q.formula q.given q.both → IsTableOf p.nodes (entries m.worlds) rows → e ≡ weight (row_entries rows) (node_at q.given)
+pub evidence_is : (p : Parts) (q : Query) (m : Model) (vs : List Valuation) (e : ℤ) → HasNodes p.nodes q.formula q.given q.both → IsTableOf p.nodes (entries m.worlds) vs → e ≡ weight (valued_entries vs) (node_at q.given)
     → e ≡ evidence_weight p q (model_of m)
-evidence_is p q m rows e nodes table is = is ∙ ap (λ d. weight d (node_at q.given)) table.entries ∙ weight-given p.nodes (entries m.worlds) q.given nodes.given_there
+evidence_is p q m vs e nodes table is = is ∙ ap (λ d. weight d (node_at q.given)) table.entries ∙ weight-given p.nodes (entries m.worlds) q.given nodes.given_there
 
 -- a value over the evidence's weight, by the truth of each node
-pub value_is : (p : Parts) (q : Query) (value : Rational) (m : Model) (rows : List Row) (b e : ℤ) → HasNodes p.nodes q.formula q.given q.both → IsTableOf p.nodes (entries m.worlds) rows → b ≡ weight (row_entries rows) (Atom q.both)
+pub value_is : (p : Parts) (q : Query) (value : Rational) (m : Model) (vs : List Valuation) (b e : ℤ) → HasNodes p.nodes q.formula q.given q.both → IsTableOf p.nodes (entries m.worlds) vs → b ≡ weight (valued_entries vs) (Atom q.both)
     → e ≡ evidence_weight p q (model_of m) → ((b *ℤ pos value.under) ≡ (value.over *ℤ e)) ↔ GivesValue p q value (model_of m)
-value_is p q value m rows b e nodes table is evidence =
+value_is p q value m vs b e nodes table is evidence =
     let ns = p.nodes in
     let d = entries m.worlds in
     let same = is ∙ ap (λ r. weight r (Atom q.both)) table.entries ∙ weight-node ns d q.both nodes.both_there ∙ weight-both ns d q.formula q.given q.both nodes.both_is in (

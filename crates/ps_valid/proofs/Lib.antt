@@ -1,5 +1,6 @@
 pub mod Weights
 pub mod Tables
+pub mod RowSums
 pub mod ProperEntries
 pub mod ModelFaults
 pub mod Quotients

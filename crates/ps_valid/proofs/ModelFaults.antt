@@ -1,22 +1,25 @@
 -- The first reason against a model, and the claim that it makes.
-use Rattle.std.proofs.Common.{◌≡◌, ◌≢◌, ℕ, zero, suc, ◌+◌, ◌<◌, pos, ◌≤ℤ◌, Option, Some, None, Result, Ok, Err, List, length, map, All, refl, sym, ap, subst, arith}
+use Rattle.std.proofs.Common.{◌≡◌, ◌≢◌, ℕ, zero, suc, ◌+◌, ◌<◌, pos, ◌≤ℤ◌, Option, Some, None, Result, Ok, Err, List, length, map, All, refl, sym, ap, subst, ◌∙◌, arith}
 use Rattle.std.specs.Prelude.{Any, IfOk}
 use Rattle.std.proofs.lemmas.List.{length-map}
 use Rattle.std.proofs.lemmas.List.Elements.{All-map}
-use Rattle.ps_meaning.specs.Bounds.{MeetsAll}
-use Rattle.ps_problem.specs.declared.bound.Bound.{Bound}
-use Rattle.ps_problem.specs.Problems.{Parts, bound_of, bounds_in, bounds_of}
+use Rattle.ps_problem.specs.declared.row.Row.{Row}
+use Rattle.ps_problem.specs.Problems.{Parts, AreParts, bound_of, bounds_in, bounds_of}
+use Rattle.ps_problem.specs.Rows.{row_of, rows_in}
+use Rattle.ps_problem.proofs.BoundRows.{rows-length}
 use Rattle.ps_answer.specs.declared.answer.Weighted.{Weighted}
 use Rattle.ps_answer.specs.declared.answer.Model.{Model}
 use Rattle.ps_claims.specs.Answers as claimed
 use Rattle.ps_claims.specs.declared.reason.Reason.{Reason}
 use Rattle.ps_claims.specs.declared.reason.Reason.TheVariants.{WrongShape, TooManyWorlds, WeightZero, WorldTwice, TotalWrong, BoundMissed}
-use Rattle.ps_claims.specs.Claims.{Assertion, Modelled, HasShape, AreFew, AreProperEntries, HasTotal, MissesFirst, IsFirstIn, claimed_model}
+use Rattle.ps_claims.specs.Claims.{Assertion, Modelled, HasShape, AreFew, AreProperEntries, HasTotal, IsFirstIn, claimed_model}
+use Rattle.ps_claims.specs.Rows.{AreRowsOf, MeetsRows}
+use Rattle.ps_claims.proofs.ProblemRows.{rows-of_bounds, bounds-met, missed-bound}
 use Rattle.ps_claims.proofs.Decided.{sound-shows}
 use Rattle.ps_claims.specs.Certificates.{entry_of, entries, model_of}
-use Rattle.ps_valid.specs.Judged.{FindsReason, FindsReasonOver, HasBounds}
+use Rattle.ps_valid.specs.Judged.{FindsReason, FindsReasonOver, HasRows}
 use Rattle.ps_valid.specs.Limits.{IsSmallModel}
-use Rattle.ps_valid.specs.Tests.{HaveShape, HasAtoms, IsFirstAmong, IsFirstAgainst, FindsAgainst, FindsAgainstOver}
+use Rattle.ps_valid.specs.Tests.{HaveShape, HasAtoms, MissesRowFirst, IsFirstAmong, IsFirstAgainst, FindsAgainst, FindsAgainstOver}
 use Rattle.ps_valid.proofs.ProperEntries.{any_entry, each_entry}
 
 pub low_weights : (m : Model) → IsSmallModel m → All (λ e. pos 0 ≤ℤ e.weight) (entries m.worlds)
@@ -64,50 +67,55 @@ first_entry p m (WeightZero n) few first = (few, first)
 first_entry p m (WorldTwice n) few first = (few, first)
 first_entry p m other few first = absurd first
 
--- ---- bounds over a problem's nodes
--- what is found against a model over bounds
-module _ (p : Parts) (bounds : List Bound) (m : Model) where
-  few_over : (q : Parts) → HasBounds p bounds q → ¬ (length bounds + 1 < length m.worlds) → AreFew q (model_of m)
+-- ---- rows over a problem's nodes
+-- what is found against a model over rows
+module _ (p : Parts) (rows : List Row) (m : Model) where
+  -- a problem with these rows has as many bounds
+  as_many : (q : Parts) → HasRows p rows q → length (bounds_of q) ≡ length rows
+  as_many q over = length-map (bounds_in q.sentences) (bound_of q.nodes) ∙ sym (rows-length q.sentences) ∙ ap length over.rows_are
+
+  few_over : (q : Parts) → HasRows p rows q → ¬ (length rows + 1 < length m.worlds) → AreFew q (model_of m)
   few_over q over few =
       let e = length-map m.worlds entry_of in
-      let f = length-map (bounds_in q.sentences) (bound_of q.nodes) in
-      let g = ap length over.bounds_are in
-      omega (arith, few, e, f, g)
+      let f = as_many q over in
+      omega (arith, few, e, f)
 
-  pub too_many_over : length bounds + 1 < length m.worlds → FindsAgainstOver p bounds (model_of m) (Some TooManyWorlds)
-  too_many_over many q over =
-      λ few. (let e = length-map m.worlds entry_of in let f = length-map (bounds_in q.sentences) (bound_of q.nodes) in let g = ap length over.bounds_are in omega (arith, many, few, e, f, g))
+  pub too_many_over : length rows + 1 < length m.worlds → FindsAgainstOver p rows (model_of m) (Some TooManyWorlds)
+  too_many_over many q over = λ few. (let e = length-map m.worlds entry_of in let f = as_many q over in omega (arith, many, few, e, f))
 
-  pub entry_over : (r : Reason) → ¬ (length bounds + 1 < length m.worlds) → IsFirstAmong (entries m.worlds) r → FindsAgainstOver p bounds (model_of m) (Some r)
+  pub entry_over : (r : Reason) → ¬ (length rows + 1 < length m.worlds) → IsFirstAmong (entries m.worlds) r → FindsAgainstOver p rows (model_of m) (Some r)
   entry_over r few first q over = first_entry q (model_of m) r (few_over q over few) first
 
-  pub total_over : ¬ (length bounds + 1 < length m.worlds) → AreProperEntries (entries m.worlds) → ¬ HasTotal (model_of m) → FindsAgainstOver p bounds (model_of m) (Some TotalWrong)
+  pub total_over : ¬ (length rows + 1 < length m.worlds) → AreProperEntries (entries m.worlds) → ¬ HasTotal (model_of m) → FindsAgainstOver p rows (model_of m) (Some TotalWrong)
   total_over few proper wrong q over = (few_over q over few, proper, wrong)
 
-  same_bounds : (q : Parts) → HasBounds p bounds q → map (bound_of p.nodes) bounds ≡ bounds_of q
-  same_bounds q over = rw (over.nodes, over.bounds_are) refl
+  -- its bounds are met exactly where the rows are
+  same_rows : (q : Parts) → HasRows p rows q → AreRowsOf (bounds_of q) (map (row_of p.nodes) rows)
+  same_rows q over = rw (over.nodes, ← over.rows_are) (rows-of_bounds p.nodes (bounds_in q.sentences) over.bounds)
 
-  pub sound_over : ¬ (length bounds + 1 < length m.worlds) → AreProperEntries (entries m.worlds) → HasTotal (model_of m) → MeetsAll (map (bound_of p.nodes) bounds) (entries m.worlds)
-      → FindsAgainstOver p bounds (model_of m) None
+  pub sound_over : ¬ (length rows + 1 < length m.worlds) → AreProperEntries (entries m.worlds) → HasTotal (model_of m) → MeetsRows (map (row_of p.nodes) rows) (entries m.worlds)
+      → FindsAgainstOver p rows (model_of m) None
   sound_over few proper total met q over =
-      record { few = few_over q over few; proper = proper; total = total; met = subst (λ bs. MeetsAll bs (entries m.worlds)) (same_bounds q over) met }
+      record { few = few_over q over few; proper = proper; total = total; met = bounds-met (bounds_of q) (map (row_of p.nodes) rows) (entries m.worlds) (same_rows q over) met }
 
-  pub missed_over : (n : ℕ) → ¬ (length bounds + 1 < length m.worlds) → AreProperEntries (entries m.worlds) → HasTotal (model_of m) → MissesFirst (map (bound_of p.nodes) bounds) (entries m.worlds) n
-      → FindsAgainstOver p bounds (model_of m) (Some (BoundMissed n))
-  missed_over n few proper total missed q over = (few_over q over few, proper, total, subst (λ bs. MissesFirst bs (entries m.worlds) n) (same_bounds q over) missed)
+  pub missed_over : (n : ℕ) → ¬ (length rows + 1 < length m.worlds) → AreProperEntries (entries m.worlds) → HasTotal (model_of m) → MissesRowFirst (map (row_of p.nodes) rows) (entries m.worlds) n
+      → FindsAgainstOver p rows (model_of m) (Some (BoundMissed n))
+  missed_over n few proper total missed q over =
+      (few_over q over few, proper, total, missed-bound (bounds_of q) (map (row_of p.nodes) rows) (entries m.worlds) n (same_rows q over) missed)
 
-  pub shape_over : ¬ HasAtoms p (model_of m) → FindsReasonOver p bounds m (Some WrongShape)
+  pub shape_over : ¬ HasAtoms p (model_of m) → FindsReasonOver p rows m (Some WrongShape)
   shape_over not q over = wrong_shape_first q (model_of m) (λ shape. not (subst (λ ns. HaveShape (length ns) (entries m.worlds)) over.names shape))
 
-  pub judged_over : (found : Option Reason) → IsSmallModel m → HasAtoms p (model_of m) → FindsAgainstOver p bounds (model_of m) found → FindsReasonOver p bounds m found
+  pub judged_over : (found : Option Reason) → IsSmallModel m → HasAtoms p (model_of m) → FindsAgainstOver p rows (model_of m) found → FindsReasonOver p rows m found
   judged_over found small shape h q over = judged_model q m found small (subst (λ ns. HaveShape (length ns) (entries m.worlds)) (sym over.names) shape) (h q over)
 
-  its_own : bounds ≡ bounds_in p.sentences → HasBounds p bounds p
-  its_own e = record { names = refl; nodes = refl; bounds_are = sym e }
+  its_own : AreParts p → rows ≡ rows_in p.sentences → HasRows p rows p
+  its_own are e = record { names = refl; nodes = refl; bounds = are.bounds; rows_are = sym e }
 
-  pub against_all : (found : Option Reason) → bounds ≡ bounds_in p.sentences → FindsAgainstOver p bounds (model_of m) found → FindsAgainst p (model_of m) found
-  against_all found e h = h p (its_own e)
+  pub against_all : (found : Option Reason) → AreParts p → rows ≡ rows_in p.sentences → FindsAgainstOver p rows (model_of m) found → FindsAgainst p (model_of m) found
+  against_all found are e h = h p (its_own are e)
 
-  pub judged_all : {E : Type 0} (result : Result (Option Reason) E) → bounds ≡ bounds_in p.sentences → IfOk result (FindsReasonOver p bounds m) → IfOk result (FindsReason p (Modelled (model_of m)))
-  judged_all (Ok found) e h = h p (its_own e)
-  judged_all (Err x) e h = tt
+  pub judged_all : {E : Type 0} (result : Result (Option Reason) E) → AreParts p → rows ≡ rows_in p.sentences → IfOk result (FindsReasonOver p rows m)
+      → IfOk result (FindsReason p (Modelled (model_of m)))
+  judged_all (Ok found) are e h = h p (its_own are e)
+  judged_all (Err x) are e h = tt

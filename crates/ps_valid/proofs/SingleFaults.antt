@@ -5,7 +5,8 @@ use mathlib.Core.Logic.{inl, inr}
 use lib.Dec.{ltb}
 use Rattle.std.proofs.lemmas.Bool.{ltb-true, ltb-false}
 use Rattle.ps_meaning.specs.Distribution.{Entry}
-use Rattle.ps_meaning.specs.Bounds.{Bound, MeetsAll}
+use Rattle.ps_meaning.specs.Bounds.{MeetsAll}
+use Rattle.ps_meaning.specs.Rows.{Row}
 use Rattle.ps_problem.specs.Problems.{Parts, bounds_of}
 use Rattle.ps_meaning.specs.Rational.{Rational}
 use Rattle.ps_pb.specs.declared.refused.StepRefused.{StepRefused as Why}
@@ -17,6 +18,7 @@ use Rattle.ps_claims.specs.declared.claim.Claim.{Claim}
 use Rattle.ps_claims.specs.declared.claim_kind.ClaimKind.TheVariants.{Nothing}
 use Rattle.ps_claims.specs.declared.reason.Reason.{Reason}
 use Rattle.ps_claims.specs.declared.reason.Reason.TheVariants.{WrongShape, TooManyWorlds, WeightZero, WorldTwice, TotalWrong, BoundMissed, EvidenceZero, ValueMissed, HeadWrong, MultiplierSign, StepRefused, NotRefuted}
+use Rattle.ps_claims.specs.Rows.{problem_rows}
 use Rattle.ps_claims.specs.Faults.{HasHead, IsFirstWrongSign, start_for, IsFirstFault}
 use Rattle.ps_claims.specs.Claims.{Assertion, Modelled, Excluded, Bounded, claims_of, AreValid, IsValidClaim, claimed_model, HasShape, AreProperEntries, IsWeightless, IsRepeated, MissesFirst, AreFew, HasTotal, HasEvidence, HasValue, IsDualWrong, IsFirstIn, IsRefused}
 use Rattle.ps_claims.proofs.Claims.{valid_faultless}
@@ -24,20 +26,20 @@ use Rattle.ps_claims.proofs.Faults.{sign_there}
 use Rattle.ps_valid.proofs.FirstPlaces.{one_number, of_weightless, of_repeated, weightless_not_proper, repeated_not_proper, weightless_or_repeated, missed_bound, one_missed, holds_before}
 
 -- ---- signs
-sign_before : (bs : List Bound) (ys : List ℤ) (i j : ℕ) → i < j → HaveSigns (take j bs) (take j ys) → IsSomeAnd (slice_get bs i) (λ b. IsSomeAnd (slice_get ys i) (λ y. ¬ HasSign b.side y)) → ⊥
+sign_before : (rs : List Row) (ys : List ℤ) (i j : ℕ) → i < j → HaveSigns (take j rs) (take j ys) → IsSomeAnd (slice_get rs i) (λ r. IsSomeAnd (slice_get ys i) (λ y. ¬ HasSign r.side y)) → ⊥
 sign_before [] ys i j lt signs wrong = wrong
-sign_before (b ∷ bs) [] i zero lt signs wrong = absurd (omega (arith, lt))
-sign_before (b ∷ bs) [] i (suc j) lt signs wrong = signs
-sign_before (b ∷ bs) (y ∷ ys) i zero lt signs wrong = absurd (omega (arith, lt))
-sign_before (b ∷ bs) (y ∷ ys) zero (suc j) lt signs wrong = wrong signs.0
-sign_before (b ∷ bs) (y ∷ ys) (suc i) (suc j) lt signs wrong = sign_before bs ys i j (omega (arith, lt)) signs.1 wrong
+sign_before (r ∷ rs) [] i zero lt signs wrong = absurd (omega (arith, lt))
+sign_before (r ∷ rs) [] i (suc j) lt signs wrong = signs
+sign_before (r ∷ rs) (y ∷ ys) i zero lt signs wrong = absurd (omega (arith, lt))
+sign_before (r ∷ rs) (y ∷ ys) zero (suc j) lt signs wrong = wrong signs.0
+sign_before (r ∷ rs) (y ∷ ys) (suc i) (suc j) lt signs wrong = sign_before rs ys i j (omega (arith, lt)) signs.1 wrong
 
-one_sign : (bs : List Bound) (ys : List ℤ) (m n : ℕ) → IsFirstWrongSign bs ys m → IsFirstWrongSign bs ys n → m ≡ n
-one_sign bs ys m n a b = by (ltb a.0 b.0) refl (ltb b.0 a.0) refl
+one_sign : (rs : List Row) (ys : List ℤ) (m n : ℕ) → IsFirstWrongSign rs ys m → IsFirstWrongSign rs ys n → m ≡ n
+one_sign rs ys m n a b = by (ltb a.0 b.0) refl (ltb b.0 a.0) refl
   where
     by : (s : Bool) → ltb a.0 b.0 ≡ s → (t : Bool) → ltb b.0 a.0 ≡ t → m ≡ n
-    by true e t f = absurd (sign_before bs ys a.0 b.0 (ltb-true a.0 b.0 e) b.2 a.3)
-    by false e true f = absurd (sign_before bs ys b.0 a.0 (ltb-true b.0 a.0 f) a.2 b.3)
+    by true e t f = absurd (sign_before rs ys a.0 b.0 (ltb-true a.0 b.0 e) b.2 a.3)
+    by false e true f = absurd (sign_before rs ys b.0 a.0 (ltb-true b.0 a.0 f) a.2 b.3)
     by false e false f =
         let low = ltb-false a.0 b.0 e in
         let high = ltb-false b.0 a.0 f in
@@ -89,14 +91,14 @@ module _ (p : Parts) (known : Known) (value : Option Rational) (d : Dual) where
 
   -- the reason is against the dual, by the tests in their order
   abbrev AgainstDual : Reason → Type 0
-  AgainstDual = Tested (HasHead value d) (λ r. r ≡ HeadWrong) (Tested (HaveSigns (bounds_of p) d.rows) (λ r. (n : ℕ) × (r ≡ MultiplierSign n) × IsFirstWrongSign (bounds_of p) d.rows n) AgainstSteps)
+  AgainstDual = Tested (HasHead value d) (λ r. r ≡ HeadWrong) (Tested (HaveSigns (problem_rows p) d.rows) (λ r. (n : ℕ) × (r ≡ MultiplierSign n) × IsFirstWrongSign (problem_rows p) d.rows n) AgainstSteps)
 
   one_against_dual : IsSingle AgainstDual
-  one_against_dual = tested _ _ _ (only HeadWrong) (tested _ _ _ (numbered MultiplierSign (IsFirstWrongSign (bounds_of p) d.rows) (one_sign (bounds_of p) d.rows)) one_against_steps)
+  one_against_dual = tested _ _ _ (only HeadWrong) (tested _ _ _ (numbered MultiplierSign (IsFirstWrongSign (problem_rows p) d.rows) (one_sign (problem_rows p) d.rows)) one_against_steps)
 
   against_dual : (r : Reason) → IsFirstFault p known value d r → AgainstDual r
   against_dual HeadWrong a = inl (a, refl)
-  against_dual (MultiplierSign n) a = inr (a.0, inl ((λ signs. sign_there (bounds_of p) d.rows a.1.0 signs a.1.3), (n, refl, a.1)))
+  against_dual (MultiplierSign n) a = inr (a.0, inl ((λ signs. sign_there (problem_rows p) d.rows a.1.0 signs a.1.3), (n, refl, a.1)))
   against_dual (StepRefused id why) a = inr (a.0, inr (a.1, inl ((λ none. no_refusal refusal (id, why) a.2 none), ((id, why), refl, a.2))))
   against_dual NotRefuted a = inr (a.0, inr (a.1, inr (lawful-none (length p.nodes) known d.steps a.2, refl)))
   against_dual other a = absurd a

@@ -4,46 +4,43 @@ use Rattle.std.specs.Prelude.{IsSomeAnd, MatchOption, option_map}
 use Rattle.std.proofs.lemmas.List.{take-map, take_more, take_all}
 use Rattle.std.proofs.lemmas.Option.{slice_get-map, slice_get-get_or}
 use Rattle.ps_formula.specs.declared.node.Node.{Node}
-use Rattle.ps_problem.specs.declared.bound.Bound.{Bound}
-use Rattle.ps_problem.specs.Problems.{bound_of}
+use Rattle.ps_problem.specs.declared.row.Row.{Row}
+use Rattle.ps_problem.specs.Rows.{row_of}
 use Rattle.ps_claims.specs.Duals.{HasSign, HaveSigns}
 use Rattle.ps_claims.specs.Faults.{IsFirstWrongSign}
 use Rattle.ps_valid.specs.DualTests.{HaveSignsAt, IsFirstSignAt, FindsSignAt}
 
-sign_of : Bound → ℤ → Type 0
-sign_of b y = HasSign b.side y
+zip-push : (rs : List Row) (ys : List ℤ) (r : Row) (y : ℤ) → HaveSignsAt rs ys → HasSign r.side y → HaveSignsAt (rs ++ r ∷ []) (ys ++ y ∷ [])
+zip-push [] [] r y h s = (s, tt)
+zip-push [] (z ∷ ys) r y h s = absurd h
+zip-push (a ∷ rs) [] r y h s = absurd h
+zip-push (a ∷ rs) (z ∷ ys) r y h s = (h.0, zip-push rs ys r y h.1 s)
 
-zip-push : (bs : List Bound) (ys : List ℤ) (b : Bound) (y : ℤ) → HaveSignsAt bs ys → HasSign b.side y → HaveSignsAt (bs ++ b ∷ []) (ys ++ y ∷ [])
-zip-push [] [] b y h r = (r, tt)
-zip-push [] (z ∷ ys) b y h r = absurd h
-zip-push (a ∷ bs) [] b y h r = absurd h
-zip-push (a ∷ bs) (z ∷ ys) b y h r = (h.0, zip-push bs ys b y h.1 r)
+pub signs_more : (rs : List Row) (ys : List ℤ) (i : ℕ) (r : Row) (y : ℤ) → i < length rs → length ys ≡ length rs → HaveSignsAt (take i rs) (take i ys) → HasSign (get_or rs i r).side (get_or ys i y)
+    → HaveSignsAt (take (i + 1) rs) (take (i + 1) ys)
+signs_more rs ys i r y lt long signs sign = rw (take_more rs i r lt, take_more ys i y (omega (arith, lt, long))) (zip-push (take i rs) (take i ys) (get_or rs i r) (get_or ys i y) signs sign)
 
-pub signs_more : (bs : List Bound) (ys : List ℤ) (i : ℕ) (b : Bound) (y : ℤ) → i < length bs → length ys ≡ length bs → HaveSignsAt (take i bs) (take i ys) → HasSign (get_or bs i b).side (get_or ys i y)
-    → HaveSignsAt (take (i + 1) bs) (take (i + 1) ys)
-signs_more bs ys i b y lt long signs sign = rw (take_more bs i b lt, take_more ys i y (omega (arith, lt, long))) (zip-push (take i bs) (take i ys) (get_or bs i b) (get_or ys i y) signs sign)
+pub wrong_at : (rs : List Row) (ys : List ℤ) (i : ℕ) (r : Row) (y : ℤ) → i < length rs → i < length ys → HaveSignsAt (take i rs) (take i ys) → ¬ HasSign (get_or rs i r).side (get_or ys i y)
+    → IsFirstSignAt rs ys (i + 1)
+wrong_at rs ys i r y lt lt' signs wrong = (i, refl, signs, rw (slice_get-get_or rs i r lt, slice_get-get_or ys i y lt') wrong)
 
-pub wrong_at : (bs : List Bound) (ys : List ℤ) (i : ℕ) (b : Bound) (y : ℤ) → i < length bs → i < length ys → HaveSignsAt (take i bs) (take i ys) → ¬ HasSign (get_or bs i b).side (get_or ys i y)
-    → IsFirstSignAt bs ys (i + 1)
-wrong_at bs ys i b y lt lt' signs wrong = (i, refl, signs, rw (slice_get-get_or bs i b lt, slice_get-get_or ys i y lt') wrong)
+pub signs-all : (rs : List Row) (ys : List ℤ) (i : ℕ) → length ys ≡ length rs → ¬ (i < length rs) → HaveSignsAt (take i rs) (take i ys) → HaveSignsAt rs ys
+signs-all rs ys i long past signs = rw (take_all i rs (omega (arith, past)), take_all i ys (omega (arith, past, long))) at signs
 
-pub signs-all : (bs : List Bound) (ys : List ℤ) (i : ℕ) → length ys ≡ length bs → ¬ (i < length bs) → HaveSignsAt (take i bs) (take i ys) → HaveSignsAt bs ys
-signs-all bs ys i long past signs = rw (take_all i bs (omega (arith, past)), take_all i ys (omega (arith, past, long))) at signs
-
-have_signs : (ns : List Node) (bs : List Bound) (ys : List ℤ) → HaveSignsAt bs ys → HaveSigns (map (bound_of ns) bs) ys
+have_signs : (ns : List Node) (rs : List Row) (ys : List ℤ) → HaveSignsAt rs ys → HaveSigns (map (row_of ns) rs) ys
 have_signs ns [] [] h = tt
 have_signs ns [] (y ∷ ys) h = absurd h
-have_signs ns (b ∷ bs) [] h = absurd h
-have_signs ns (b ∷ bs) (y ∷ ys) h = (h.0, have_signs ns bs ys h.1)
+have_signs ns (r ∷ rs) [] h = absurd h
+have_signs ns (r ∷ rs) (y ∷ ys) h = (h.0, have_signs ns rs ys h.1)
 
-wrong_there : (ns : List Node) (o : Option Bound) (y : Option ℤ) → IsSomeAnd o (λ b. IsSomeAnd y (λ z. ¬ HasSign b.side z)) → IsSomeAnd (option_map (bound_of ns) o) (λ b. IsSomeAnd y (λ z. ¬ HasSign b.side z))
+wrong_there : (ns : List Node) (o : Option Row) (y : Option ℤ) → IsSomeAnd o (λ r. IsSomeAnd y (λ z. ¬ HasSign r.side z)) → IsSomeAnd (option_map (row_of ns) o) (λ r. IsSomeAnd y (λ z. ¬ HasSign r.side z))
 wrong_there ns None y h = h
-wrong_there ns (Some b) y h = h
+wrong_there ns (Some r) y h = h
 
-first_wrong : (ns : List Node) (bs : List Bound) (ys : List ℤ) (n : ℕ) → IsFirstSignAt bs ys n → IsFirstWrongSign (map (bound_of ns) bs) ys n
-first_wrong ns bs ys n (i, is, signs, wrong) = (i, is, rw (take-map (bound_of ns) i bs) (have_signs ns (take i bs) (take i ys) signs), rw (slice_get-map (bound_of ns) bs i) (wrong_there ns (slice_get bs i) (slice_get ys i) wrong))
+first_wrong : (ns : List Node) (rs : List Row) (ys : List ℤ) (n : ℕ) → IsFirstSignAt rs ys n → IsFirstWrongSign (map (row_of ns) rs) ys n
+first_wrong ns rs ys n (i, is, signs, wrong) = (i, is, rw (take-map (row_of ns) i rs) (have_signs ns (take i rs) (take i ys) signs), rw (slice_get-map (row_of ns) rs i) (wrong_there ns (slice_get rs i) (slice_get ys i) wrong))
 
--- what is found of stored bounds is found of the bounds that they stand for
-pub judged_signs : (ns : List Node) (bs : List Bound) (ys : List ℤ) (found : Option ℕ) → FindsSignAt bs ys found → MatchOption found (HaveSigns (map (bound_of ns) bs) ys) (IsFirstWrongSign (map (bound_of ns) bs) ys)
-judged_signs ns bs ys None h = have_signs ns bs ys h
-judged_signs ns bs ys (Some n) h = first_wrong ns bs ys n h
+-- what is found of stored rows is found of the rows that they stand for
+pub judged_signs : (ns : List Node) (rs : List Row) (ys : List ℤ) (found : Option ℕ) → FindsSignAt rs ys found → MatchOption found (HaveSigns (map (row_of ns) rs) ys) (IsFirstWrongSign (map (row_of ns) rs) ys)
+judged_signs ns rs ys None h = have_signs ns rs ys h
+judged_signs ns rs ys (Some n) h = first_wrong ns rs ys n h

@@ -1,7 +1,7 @@
 -- What the tests of a dual find.
 use Rattle.std.specs.Prelude.{ℕ, ◌≡◌, ◌+◌, ℤ, false, List, Option, Some, MatchOption, IsSomeAnd, length, take, slice_get}
 use Rattle.std.specs.List.{AllZip}
-use Rattle.ps_problem.specs.declared.bound.Bound.{Bound}
+use Rattle.ps_problem.specs.declared.row.Row.{Row}
 use Rattle.ps_problem.specs.Problems.{Parts}
 use Rattle.ps_meaning.specs.Rational.{Rational}
 use Rattle.ps_pb.specs.declared.refused.StepRefused as refused
@@ -13,18 +13,18 @@ use Rattle.ps_claims.specs.Duals.{Dual, HasSign}
 use Rattle.ps_claims.specs.Faults.{IsFaultless, IsFirstFault}
 use Rattle.ps_valid.specs.Aims.{Aim, start_of}
 
--- no multiplier of the stored bounds is of the wrong sign
-abbrev pub HaveSignsAt : List Bound → List ℤ → Type 0
-HaveSignsAt bounds ys = AllZip (λ b y. HasSign b.side y) bounds ys
+-- no multiplier of the stored rows is of the wrong sign
+abbrev pub HaveSignsAt : List Row → List ℤ → Type 0
+HaveSignsAt rows ys = AllZip (λ r y. HasSign r.side y) rows ys
 
--- the stored bound of this number, from 1, is the first whose multiplier is of the wrong sign
-abbrev pub IsFirstSignAt : List Bound → List ℤ → ℕ → Type 0
-IsFirstSignAt bounds ys n = (i : ℕ) × (n ≡ i + 1) × HaveSignsAt (take i bounds) (take i ys)
-    × IsSomeAnd (slice_get bounds i) (λ b. IsSomeAnd (slice_get ys i) (λ y. ¬ HasSign b.side y))
+-- the stored row of this number, from 1, is the first whose multiplier is of the wrong sign
+abbrev pub IsFirstSignAt : List Row → List ℤ → ℕ → Type 0
+IsFirstSignAt rows ys n = (i : ℕ) × (n ≡ i + 1) × HaveSignsAt (take i rows) (take i ys)
+    × IsSomeAnd (slice_get rows i) (λ r. IsSomeAnd (slice_get ys i) (λ y. ¬ HasSign r.side y))
 
--- the bound is the first with a wrong sign, and there is none where no sign is wrong
-abbrev pub FindsSignAt : List Bound → List ℤ → Option ℕ → Type 0
-FindsSignAt bounds ys found = MatchOption found (HaveSignsAt bounds ys) (IsFirstSignAt bounds ys)
+-- the row is the first with a wrong sign, and there is none where no sign is wrong
+abbrev pub FindsSignAt : List Row → List ℤ → Option ℕ → Type 0
+FindsSignAt rows ys found = MatchOption found (HaveSignsAt rows ys) (IsFirstSignAt rows ys)
 
 -- the id of the first of these steps that a checker refuses, and why
 abbrev pub first_refused_by : Checked → List Step → Option (ℕ × refused.StepRefused)

@@ -1,8 +1,9 @@
 -- What is answered of an answer: that it is accepted, or that it is refused for the first reason against its first
 -- claim at fault.
 use Rattle.std.specs.Prelude.{◌≡◌, List, Option, MatchOption, Result, Ok, Err, length}
-use Rattle.ps_problem.specs.declared.bound.Bound.{Bound}
-use Rattle.ps_problem.specs.Problems.{Parts, bounds_in}
+use Rattle.ps_problem.specs.declared.row.Row.{Row}
+use Rattle.ps_problem.specs.Problems.{Parts, AreBounds, bounds_in}
+use Rattle.ps_problem.specs.Rows.{rows_in}
 use Rattle.ps_answer.specs.declared.answer.Model.{Model}
 use Rattle.ps_answer.specs.declared.answer.Dual.{Dual}
 use Rattle.ps_answer.specs.declared.answer.Answer.{Answer}
@@ -21,16 +22,17 @@ use Rattle.ps_valid.specs.Answers.{answer_of}
 abbrev pub FindsReason : Parts → Assertion → Option Reason → Type 0
 FindsReason p c found = MatchOption found (IsValidClaim p c) (IsFirstIn p c)
 
--- a problem has the atoms and nodes of another, and these bounds
-pub record HasBounds (p : Parts) (bounds : List Bound) (q : Parts) : Type 0 where
+-- a problem has the atoms and nodes of another, and bounds over them with these rows
+pub record HasRows (p : Parts) (rows : List Row) (q : Parts) : Type 0 where
   pub names : q.names ≡ p.names
   pub nodes : q.nodes ≡ p.nodes
-  pub bounds_are : bounds_in q.sentences ≡ bounds
+  pub bounds : AreBounds p.nodes (bounds_in q.sentences)
+  pub rows_are : rows_in q.sentences ≡ rows
 
--- the reason is the first against the model of each problem that has these bounds over the same atoms and nodes, and
+-- the reason is the first against the model of each problem that has these rows over the same atoms and nodes, and
 -- there is none where it is valid
-abbrev pub FindsReasonOver : Parts → List Bound → Model → Option Reason → Type 0
-FindsReasonOver p bounds m found = (q : Parts) → HasBounds p bounds q → FindsReason q (Modelled (model_of m)) found
+abbrev pub FindsReasonOver : Parts → List Row → Model → Option Reason → Type 0
+FindsReasonOver p rows m found = (q : Parts) → HasRows p rows q → FindsReason q (Modelled (model_of m)) found
 
 -- the reason is the first against what is claimed by this model and this dual, and there is none where it is valid
 abbrev pub FindsBy : Parts → (claimed.Model → claimed_by.Dual → Assertion) → Model → Dual → Option Reason → Type 0

@@ -10,4 +10,4 @@ pub mod ClaimLists
 pub mod Tests
 pub mod Aims
 pub mod DualTests
-pub mod Rows
+pub mod Valuations

@@ -44,15 +44,15 @@ pub fn check_bound(
     if dual.rows.len() != problem.bounds() as usize {
         return Ok(Some(Reason::WrongShape));
     }
-    let rows = evaluate(alloc, problem.formulas(), model.worlds.as_slice())?;
-    if let Some(reason) = first_against(problem, model, &rows) {
+    let valued = evaluate(alloc, problem.formulas(), model.worlds.as_slice())?;
+    if let Some(reason) = first_against(problem, model, &valued) {
         return Ok(Some(reason));
     }
-    let evidence = weight_given(&rows, model.total, query.given);
+    let evidence = weight_given(&valued, model.total, query.given);
     if evidence == 0 {
         return Ok(Some(Reason::EvidenceZero));
     }
-    if !is_quotient(value, weight_of(&rows, query.both), evidence) {
+    if !is_quotient(value, weight_of(&valued, query.both), evidence) {
         return Ok(Some(Reason::ValueMissed));
     }
     first_in_dual(

@@ -184,7 +184,7 @@ pub fn check(alloc: Global, problem: &Problem, answer: &Answer) -> Result<Accept
     ensures right { OnOk result (IsRightOf problem.now answer.now) }
 {
     // Called for its clauses: the problem is within the limits, its numbers in range.
-    let _sound = problem.bound_list();
+    let _sound = problem.rows();
     let queries = queries_asked(problem, &answer.verdict);
     let parts = answer.parts.as_slice();
     if parts.len() != queries.len() {

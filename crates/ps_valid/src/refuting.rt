@@ -78,7 +78,7 @@ pub fn first_in_dual(
     if !has_head(value, dual) {
         return Ok(Some(Reason::HeadWrong));
     }
-    if let Some(bound) = first_wrong_sign(problem.bound_list(), dual.rows.as_slice()) {
+    if let Some(bound) = first_wrong_sign(problem.rows(), dual.rows.as_slice()) {
         return Ok(Some(Reason::MultiplierSign { bound }));
     }
     first_in_run(alloc, problem, kind, given, both, dual)

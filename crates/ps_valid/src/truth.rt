@@ -7,7 +7,7 @@ ghost use Rattle.ps_claims.specs.Certificates.{entries};
 ghost use Rattle.ps_meaning.specs.declared.limits.TheConstants.{PRINTED_LIMIT};
 ghost use Rattle.ps_valid.specs.Limits.{AreSmall};
 ghost use Rattle.ps_answer.specs.declared.limits.TheConstants.{MOST_ENTRIES};
-ghost use Rattle.ps_valid.specs.Rows.{AreRows, HaveNode, IsTableOf, row_entries};
+ghost use Rattle.ps_valid.specs.Valuations.{AreValuations, HaveNode, IsTableOf, valued_entries};
 
 use ps_answer::Weighted;
 use ps_formula::{Formulas, eval};
@@ -16,7 +16,7 @@ use std::alloc::Global;
 
 /// The weight of a world, and the truth of each formula in it.
 #[derive(Drop)]
-pub struct Row {
+pub struct Valuation {
     /// The weight of the world.
     pub weight: i128,
     /// The truth values, by the numbers of the nodes.
@@ -30,37 +30,37 @@ fn share(value: bool, weight: i128) -> i128
 }
 
 /// The weight of the worlds in which the formula of a node is true.
-pub fn weight_of(rows: &[Row], node: u32) -> i128
-    requires rows { AreRows rows.now }
-    requires node { HaveNode rows.now node }
-    ensures weight { result ≡ weight (row_entries rows.now) (Atom node) }
+pub fn weight_of(valued: &[Valuation], node: u32) -> i128
+    requires valued { AreValuations valued.now }
+    requires node { HaveNode valued.now node }
+    ensures weight { result ≡ weight (valued_entries valued.now) (Atom node) }
     ensures low { pos 0 ≤ℤ result }
     ensures high { result ≤ℤ pos (MOST_ENTRIES * PRINTED_LIMIT) }
 {
     let mut sum = 0;
-    for row in rows {
-        sum += share(row.values[node as usize], row.weight);
+    for valuation in valued {
+        sum += share(valuation.values[node as usize], valuation.weight);
     }
     sum
 }
 
-/// A row for each world.
+/// A valuation for each world.
 pub fn evaluate(
     alloc: Global,
     formulas: &Formulas,
     worlds: &[Weighted],
-) -> Result<Vec<Row>, NoMemory>
+) -> Result<Vec<Valuation>, NoMemory>
     requires atoms { All (λ w. All (AtomBelow (length w.world)) formulas.now) worlds.now }
     requires small { AreSmall worlds.now }
-    ensures table { IfOk result (λ rows. IsTableOf formulas.now (entries worlds.now) rows.items) }
+    ensures table { IfOk result (λ v. IsTableOf formulas.now (entries worlds.now) v.items) }
 {
-    let mut rows = Vec::new(alloc);
+    let mut valued = Vec::new(alloc);
     for w in worlds {
         let values = eval(alloc, formulas, &w.world)?;
-        rows.push(Row {
+        valued.push(Valuation {
             weight: w.weight,
             values,
         })?;
     }
-    Ok(rows)
+    Ok(valued)
 }

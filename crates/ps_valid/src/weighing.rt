@@ -10,7 +10,7 @@ ghost use Rattle.ps_valid.specs.Tests.{FindsFault, HasAtoms};
 use ps_answer::{Model, Weighted};
 use ps_claims::Reason;
 use ps_formula::World;
-use ps_problem::{Bound, Problem};
+use ps_problem::{Problem, Row};
 
 fn have_wrong_shape(worlds: &[Weighted], atoms: u16) -> bool
     ensures { IsTrue result ↔ Any (λ w. length w.world ≢ atoms) worlds.now }
@@ -26,12 +26,12 @@ pub fn has_wrong_shape(problem: &Problem, model: &Model) -> bool
     have_wrong_shape(model.worlds.as_slice(), problem.atoms())
 }
 
-/// Whether there are more worlds than bounds and one.
-pub fn has_too_many(bounds: &[Bound], model: &Model) -> bool
-    requires few { length bounds.now ≤ MOST_BOUNDS }
-    ensures { IsTrue result ↔ (length bounds.now + 1 < length model.now.worlds) }
+/// Whether there are more worlds than rows and one.
+pub fn has_too_many(rows: &[Row], model: &Model) -> bool
+    requires few { length rows.now ≤ MOST_BOUNDS }
+    ensures { IsTrue result ↔ (length rows.now + 1 < length model.now.worlds) }
 {
-    model.worlds.len() > bounds.len() + 1
+    model.worlds.len() > rows.len() + 1
 }
 
 fn same(a: &World, b: &World) -> bool

@@ -1,6 +1,6 @@
 //! A solver and checker for probabilistic logic, on the standard streams: it answers a problem with a
-//! report, judges a report on a problem, explains why a problem's sentences can't be met, and makes
-//! problems.
+//! report, judges a report on a problem, explains why a problem's sentences can't be met, writes a
+//! problem's canonical text, and makes problems.
 #![tactic(auto)]
 
 use ps_commands::{Message, NoWords, Status, exit_code, failure, run_program};

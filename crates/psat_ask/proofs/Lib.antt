@@ -1,3 +1,3 @@
-pub mod GreatestLaws
+pub mod StatusLaws
 pub mod KindLaws
 pub mod RequestLaws

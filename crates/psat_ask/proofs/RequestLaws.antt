@@ -1,92 +1,118 @@
--- Words that lead from settings to others.
-use Rattle.std.proofs.Common.{◌≡◌, ◌∙◌, ◌≢◌, ℕ, zero, suc, ◌+◌, ◌<◌, ◌≤◌, List, [], ◌∷◌, ◌++◌, length, drop, get_or, map, refl, sym, ap, subst, arith}
+-- Words that lead from choices to others.
+use Rattle.std.proofs.Common.{◌≡◌, ◌∙◌, ◌≢◌, ℕ, zero, suc, ◌+◌, ◌<◌, ◌≤◌, List, [], ◌∷◌, ◌++◌, length, drop, get_or, map, inl, inr, refl, sym, ap, subst, arith}
 use Rattle.std.specs.Prelude.{codes, String, string_bytes}
-use Rattle.std.proofs.lemmas.List.{drop_all, drop_more}
+use Rattle.std.specs.List.{Contains}
+use Rattle.std.proofs.lemmas.List.{append-nil, append_assoc, drop_all, drop_more, get_or-map, length-map}
+use Rattle.std.proofs.lemmas.List.Elements.{Contains-get_or}
 use Rattle.std.specs.declared.alloc.Global.{Global}
-use Rattle.ps_ask.specs.declared.settings.Settings.{Settings}
 use Rattle.psat_ask.specs.declared.options.Valued.{Valued}
 use Rattle.psat_ask.specs.declared.request.Next.{Next}
 use Rattle.psat_ask.specs.declared.request.Next.TheVariants as next
 use Rattle.psat_ask.specs.declared.request.Reading.{Reading}
-use Rattle.psat_ask.specs.Options.{name_of, usual_settings}
-use Rattle.psat_ask.specs.Requests.{Apart, Behind, File, Files, Flag, IsFile, IsNoValue, Joined, Nothing, SetBy, Sets, SetsFlag, SetsJoined, Took}
+use Rattle.psat_ask.specs.declared.request.Request.{Request}
+use Rattle.psat_ask.specs.declared.request.Request.TheVariants as request
+use Rattle.psat_ask.specs.Options.{name_of}
+use Rattle.psat_ask.specs.Choices.{Choices, choices_of, usual_choices, with_files}
+use Rattle.psat_ask.specs.Requests.{Apart, AsksFor, Behind, File, Files, Flag, HasSettings, IsAskedBy, IsFile, IsNoValue, Joined, Nothing, SetBy, Sets, SetsFlag, SetsJoined, Took}
 
 module _ (word : List ℕ) (old new : Reading) where
-  abbrev s : Settings
-  s = old.asked.settings
+  abbrev c : Choices
+  c = choices_of old.asked
 
-  abbrev t : Settings
-  t = new.asked.settings
+  abbrev d : Choices
+  d = choices_of new.asked
 
   -- from a place where options may stand
-  took-word : old.next ≡ next.Word → ((words : List (List ℕ)) (u : Settings) → Behind new.next t words u → SetBy (word ∷ words) s u) → Took word old new
-  took-word o h = record { leads = λ words u k. subst (λ (x : Next). Behind x s (word ∷ words) u) (sym o) (h words u k) }
+  took-word : old.next ≡ next.Word → ((words : List (List ℕ)) (e : Choices) → Behind new.next d words e → SetBy (word ∷ words) c e) → Took word old new
+  took-word o h = record { leads = λ words e k. subst (λ (x : Next). Behind x c (word ∷ words) e) (sym o) (h words e k) }
 
-  behind-word : new.next ≡ next.Word → (words : List (List ℕ)) (u : Settings) → Behind new.next t words u → SetBy words t u
-  behind-word n words u k = subst (λ (x : Next). Behind x t words u) n k
+  behind-word : new.next ≡ next.Word → (words : List (List ℕ)) (e : Choices) → Behind new.next d words e → SetBy words d e
+  behind-word n words e k = subst (λ (x : Next). Behind x d words e) n k
 
-  pub took_flag : old.next ≡ next.Word → new.next ≡ old.next → SetsFlag word s t → Took word old new
-  took_flag o n h = took-word o (λ words u k. Flag word words s t u h (behind-word (n ∙ o) words u k))
+  pub took_flag : old.next ≡ next.Word → new.next ≡ old.next → SetsFlag word c d → Took word old new
+  took_flag o n h = took-word o (λ words e k. Flag word words c d e h (behind-word (n ∙ o) words e k))
 
-  pub took_joined : (name value : List ℕ) → old.next ≡ next.Word → new.next ≡ old.next → word ≡ name ++ (61 ∷ value) → SetsJoined name value s t → Took word old new
+  pub took_joined : (name value : List ℕ) → old.next ≡ next.Word → new.next ≡ old.next → word ≡ name ++ (61 ∷ value) → SetsJoined name value c d → Took word old new
   took_joined name value o n is h =
-      took-word o (λ words u k. subst (λ (w : List ℕ). SetBy (w ∷ words) s u) (sym is) (Joined name value words s t u h (behind-word (n ∙ o) words u k)))
+      took-word o (λ words e k. subst (λ (w : List ℕ). SetBy (w ∷ words) c e) (sym is) (Joined name value words c d e h (behind-word (n ∙ o) words e k)))
 
-  pub took_file : old.next ≡ next.Word → new.next ≡ old.next → t ≡ s → IsFile word → Took word old new
-  took_file o n e h = took-word o (λ words u k. File word words s u h (subst (λ (x : Settings). SetBy words x u) e (behind-word (n ∙ o) words u k)))
+  pub took_file : old.next ≡ next.Word → new.next ≡ old.next → d ≡ with_files c (word ∷ []) → IsFile word → Took word old new
+  took_file o n is h = took-word o (λ words e k. File word words c e h (subst (λ (x : Choices). SetBy words x e) is (behind-word (n ∙ o) words e k)))
 
-  pub took_end : old.next ≡ next.Word → new.next ≡ next.File → t ≡ s → word ≡ codes "--" → Took word old new
-  took_end o n e is = took-word o (λ words u k.
-      let u-is : u ≡ s = subst (λ (x : Next). Behind x t words u) n k ∙ e in
-      subst (λ (w : List ℕ). SetBy (w ∷ words) s u) (sym is) (subst (λ (x : Settings). SetBy (codes "--" ∷ words) s x) (sym u-is) (Files words s)))
+  pub took_end : old.next ≡ next.Word → new.next ≡ next.File → d ≡ c → word ≡ codes "--" → Took word old new
+  took_end o n same is = took-word o (λ words e k.
+      let e-is : e ≡ with_files c words = subst (λ (x : Next). Behind x d words e) n k ∙ ap (λ (x : Choices). with_files x words) same in
+      subst (λ (w : List ℕ). SetBy (w ∷ words) c e) (sym is) (subst (λ (x : Choices). SetBy (codes "--" ∷ words) c x) (sym e-is) (Files words c)))
 
-  behind-value : (option : Valued) → t ≡ s → (words : List (List ℕ)) (u : Settings) → Behind (next.Value option) t words u → SetBy (name_of option ∷ words) s u
-  behind-value option e [] u k = absurd k
-  behind-value option e (value ∷ words) u k = Apart option value words s k.0 u (subst (λ (x : Settings). Sets option value x k.0) e k.1) k.2
+  behind-value : (option : Valued) → d ≡ c → (words : List (List ℕ)) (e : Choices) → Behind (next.Value option) d words e → SetBy (name_of option ∷ words) c e
+  behind-value option same [] e k = absurd k
+  behind-value option same (value ∷ words) e k = Apart option value words c k.0 e (subst (λ (x : Choices). Sets option value x k.0) same k.1) k.2
 
-  pub took_option : (option : Valued) → old.next ≡ next.Word → new.next ≡ next.Value option → t ≡ s → word ≡ name_of option → Took word old new
-  took_option option o n e is = took-word o (λ words u k.
-      subst (λ (w : List ℕ). SetBy (w ∷ words) s u) (sym is) (behind-value option e words u (subst (λ (x : Next). Behind x t words u) n k)))
+  pub took_option : (option : Valued) → old.next ≡ next.Word → new.next ≡ next.Value option → d ≡ c → word ≡ name_of option → Took word old new
+  took_option option o n same is = took-word o (λ words e k.
+      subst (λ (w : List ℕ). SetBy (w ∷ words) c e) (sym is) (behind-value option same words e (subst (λ (x : Next). Behind x d words e) n k)))
 
-  pub took_value : (option : Valued) → old.next ≡ next.Value option → new.next ≡ next.Word → Sets option word s t → Took word old new
+  pub took_value : (option : Valued) → old.next ≡ next.Value option → new.next ≡ next.Word → Sets option word c d → Took word old new
   took_value option o n h = record {
-    leads = λ words u k.
-        subst (λ (x : Next). Behind x s (word ∷ words) u) (sym o) (t, h, behind-word n words u k);
+    leads = λ words e k.
+        subst (λ (x : Next). Behind x c (word ∷ words) e) (sym o) (d, h, behind-word n words e k);
   }
 
-  pub took_later : old.next ≡ next.File → new.next ≡ old.next → t ≡ s → Took word old new
-  took_later o n e = record {
-    leads = λ words u k.
-        subst (λ (x : Next). Behind x s (word ∷ words) u) (sym o) (subst (λ (x : Next). Behind x t words u) (n ∙ o) k ∙ e);
+  pub took_later : old.next ≡ next.File → new.next ≡ old.next → d ≡ with_files c (word ∷ []) → Took word old new
+  took_later o n is = record {
+    leads = λ words e k.
+        subst (λ (x : Next). Behind x c (word ∷ words) e) (sym o)
+        (subst (λ (x : Next). Behind x d words e) (n ∙ o) k ∙ ap (λ (x : Choices). with_files x words) is
+        ∙ ap (λ (fs : List (List ℕ)). record c { files = fs }) (append_assoc c.files (word ∷ []) words));
   }
 
 -- ---- all words
 -- what is behind the words before a place leads where all words lead
 pub record LeadsBehind (words : List (String Global)) (place : ℕ) (r : Reading) : Type 0 where
-  pub leads : (u : Settings) → Behind r.next r.asked.settings (map string_bytes (drop place words)) u → SetBy (map string_bytes words) usual_settings u
+  pub leads : (c : Choices) → Behind r.next (choices_of r.asked) (map string_bytes (drop place words)) c → SetBy (map string_bytes words) usual_choices c
 
-pub leads_first : (words : List (String Global)) (r : Reading) → r.next ≡ next.Word → r.asked.settings ≡ usual_settings → LeadsBehind words 0 r
-leads_first words r n e = record {
-  leads = λ u k.
-      subst (λ (x : Settings). SetBy (map string_bytes words) x u) e (subst (λ (x : Next). Behind x r.asked.settings (map string_bytes words) u) n k);
+pub leads_first : (words : List (String Global)) (r : Reading) → r.next ≡ next.Word → choices_of r.asked ≡ usual_choices → LeadsBehind words 0 r
+leads_first words r n same = record {
+  leads = λ c k.
+      subst (λ (x : Choices). SetBy (map string_bytes words) x c) same (subst (λ (x : Next). Behind x (choices_of r.asked) (map string_bytes words) c) n k);
 }
 
 pub leads_next : (words : List (String Global)) (place : ℕ) (word : String Global) (old new : Reading) → place < length words → word ≡ get_or words place word
     → LeadsBehind words place old → Took (string_bytes word) old new → LeadsBehind words (place + 1) new
 leads_next words place word old new lt is h took = record {
-  leads = λ u k.
+  leads = λ c k.
       let there : drop place words ≡ word ∷ drop (place + 1) words = drop_more words place word lt ∙ ap (λ (w : String Global). w ∷ drop (place + 1) words) (sym is) in
-      h.leads u (subst (λ (ws : List (String Global)). Behind old.next old.asked.settings (map string_bytes ws) u) (sym there)
-      (took.leads (map string_bytes (drop (place + 1) words)) u k));
+      h.leads c (subst (λ (ws : List (String Global)). Behind old.next (choices_of old.asked) (map string_bytes ws) c) (sym there)
+      (took.leads (map string_bytes (drop (place + 1) words)) c k));
 }
 
-ends : (n : Next) (s : Settings) → IsNoValue n → Behind n s [] s
-ends next.Word s h = Nothing s
-ends (next.Value option) s h = absurd h
-ends next.File s h = refl
+ends : (n : Next) (c : Choices) → IsNoValue n → Behind n c [] c
+ends next.Word c h = Nothing c
+ends (next.Value option) c h = absurd h
+ends next.File c h = ap (λ (fs : List (List ℕ)). record c { files = fs }) (sym (append-nil c.files))
 
 pub leads_last : (words : List (String Global)) (place : ℕ) (r : Reading) → length words ≤ place → IsNoValue r.next → LeadsBehind words place r
-    → SetBy (map string_bytes words) usual_settings r.asked.settings
+    → SetBy (map string_bytes words) usual_choices (choices_of r.asked)
 leads_last words place r all none h =
-    h.leads r.asked.settings (subst (λ (ws : List (String Global)). Behind r.next r.asked.settings (map string_bytes ws) r.asked.settings)
-    (sym (drop_all place words all)) (ends r.next r.asked.settings none))
+    h.leads (choices_of r.asked) (subst (λ (ws : List (String Global)). Behind r.next (choices_of r.asked) (map string_bytes ws) (choices_of r.asked))
+    (sym (drop_all place words all)) (ends r.next (choices_of r.asked) none))
+
+asked-by : (words : List (List ℕ)) (word : List ℕ) (r : Request) → Contains words word → AsksFor word r → IsAskedBy words r
+asked-by words word request.Help there h = (word, there, h)
+asked-by words word request.Version there h = (word, there, h)
+asked-by words word (request.Ask asked) there h = absurd h
+
+-- a request for something else than answers, by one of these words
+pub asked_there : (words : List (String Global)) (place : ℕ) (word : String Global) (r : Request) → place < length words → word ≡ get_or words place word
+    → AsksFor (string_bytes word) r → IsAskedBy (map string_bytes words) r
+asked_there words place word r lt is h =
+    asked-by (map string_bytes words) (string_bytes word) r
+    (subst (λ (x : List ℕ). Contains (map string_bytes words) x)
+    (get_or-map string_bytes words place word [] lt ∙ ap string_bytes (sym is))
+    (Contains-get_or (map string_bytes words) place [] (subst (λ k. place < k) (sym (length-map words string_bytes)) lt)))
+    h
+
+pub lawful_text : (word : List ℕ) (r : Request) → AsksFor word r → HasSettings r
+lawful_text word request.Help h = tt
+lawful_text word request.Version h = tt
+lawful_text word (request.Ask asked) h = absurd h

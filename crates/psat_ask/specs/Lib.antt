@@ -2,6 +2,7 @@
 pub mod Numbers
 pub mod Kinds
 pub mod Options
+pub mod Choices
 pub mod Requests
 pub mod Refusals
-pub mod Greatest
+pub mod Statuses

@@ -8,7 +8,6 @@ use Rattle.ps_ask.specs.declared.settings.Style.{Style}
 use Rattle.ps_ask.specs.declared.settings.Style.TheVariants.{Words}
 use Rattle.psat_ask.specs.declared.options.Valued.{Valued}
 use Rattle.psat_ask.specs.declared.options.Valued.TheVariants.{Digits, Pivots, Conflicts, Report, TimeLimit}
-use Rattle.psat_ask.specs.declared.request.Asked.{Asked}
 use Rattle.psat_ask.specs.Numbers.{Spells, SpellsNone}
 use Rattle.psat_ask.specs.Kinds.{all_kinds}
 
@@ -67,10 +66,6 @@ pub record HasOtherStyle (settings : Settings) (style : Style) : Type 0 where
 pub record SetsStyle (style : Style) (old new : Settings) : Type 0 where
   pub free : ¬ HasOtherStyle old style
   pub kept : new ≡ record old { style = style }
-
--- the settings of what is asked take the style
-abbrev pub TakesStyle : Style → Asked → Asked → Type 0
-TakesStyle style old new = SetsStyle style old.settings new.settings
 
 -- the settings that are found are the old ones in the style; there are none where another was asked for
 abbrev pub FindsStyle : Style → Settings → Option Settings → Type 0

@@ -2,16 +2,16 @@
 ghost use Rattle.ps_ask.specs.Shown.{AreSettings};
 
 use crate::company::Beside;
-use crate::greatest::greatest_number;
 use crate::inlet::Inlet;
 use crate::refused::WRONG_WORDS;
 use crate::report_file::{Failure, ReportFile};
 use crate::request::Asked;
 use crate::same_file::{STDIN, are_same_file, keeps_bytes};
+use crate::statuses::{Answering, answer_all};
 use crate::telling::{tell, tell_fault, tell_why};
 use crate::texts::{AWAITED, OWN_REPORT};
 use ps_ask::{Settings, Sinks, Status, Style, ask};
-use ps_io::{MemSink, NoMemory, Outlet, Sink, Source, StdSink, StdSource, write_all};
+use ps_io::{MemSink, Outlet, Sink, Source, StdSink, StdSource, write_all};
 use ps_names::shown_name;
 use std::fs::File;
 use std::io::{IsTerminal, Read, Stdout};
@@ -265,40 +265,30 @@ fn answer_under_heading(rt: &HostRuntime, asked: &Asked, file: &str) -> Status
     answer_file(rt, asked, file)
 }
 
-// The statuses of the answers to the problems of files, up to one that couldn't be written, or none
-// where memory for them is lacking.
-fn statuses_of(rt: &HostRuntime, asked: &Asked) -> Result<Vec<Status>, NoMemory>
-    requires { AreSettings asked.now.settings }
-{
-    let mut statuses = Vec::with_capacity(rt.alloc(), asked.files.len())?;
-    for file in &asked.files {
-        let status = answer_under_heading(rt, asked, file.as_str());
-        statuses.push(status)?;
-        if status == Status::WriteFault {
-            break;
-        }
-    }
-    Ok(statuses)
+/// The answers of the program to the problems of files.
+#[derive(Drop)]
+struct Answers<'a> {
+    rt: &'a HostRuntime,
+    asked: &'a Asked,
+    ghost lawful: { AreSettings asked.now.settings },
 }
 
-/// Answers each problem, and without files that of standard input: the greatest status. Where
-/// standard output fails nothing more is answered. Where the report would take the place of the
-/// problem nothing is read.
-pub fn answer_all(rt: &HostRuntime, asked: &Asked) -> u8
+impl<'a> Answering for Answers<'a> {
+    ghost answers = { λ _ _ _ _. Unit {0} };
+
+    fn answer(&mut self, file: &str) -> Status {
+        answer_under_heading(self.rt, self.asked, file)
+    }
+}
+
+/// Answers what is asked for: the number with which the program exits, the greatest status of an
+/// answer. Where the report would take the place of the problem nothing is read.
+pub fn answer_asked(rt: &HostRuntime, asked: &Asked) -> u8
     requires { AreSettings asked.now.settings }
 {
     if takes_place_of_problem(rt, asked) {
         tell_fault(rt, OWN_REPORT);
         return WRONG_WORDS;
     }
-    if asked.files.is_empty() {
-        return answer_file(rt, asked, "-").number();
-    }
-    match statuses_of(rt, asked) {
-        Ok(statuses) => greatest_number(&statuses),
-        Err(NoMemory) => {
-            tell_fault(rt, NO_MEMORY);
-            Status::NoMemory.number()
-        }
-    }
+    answer_all(&mut Answers { rt, asked }, &asked.files)
 }

@@ -1,4 +1,6 @@
 //! What is beside an answer: the clock, where time is limited, and standard error.
+ghost use Rattle.std.specs.Prelude.{◌≡◌};
+
 use crate::number::number_within;
 use crate::pieces::Pieces;
 use crate::progress::{figures_of, words_of};
@@ -46,6 +48,8 @@ pub struct Beside<'a> {
     limit: Option<Duration>,
     start: Option<Instant>,
     is_over: bool,
+    // Whether it was said that time is over, or that a piece of work has no room.
+    has_refused: bool,
     // How long pieces of work took that don't stop on their way.
     pieces: Pieces,
     // The columns of the line that tells how far the answer is; none where it isn't told.
@@ -67,6 +71,7 @@ impl<'a> Beside<'a> {
             limit: seconds.map(Duration::from_secs),
             start: None,
             is_over: false,
+            has_refused: false,
             pieces: Pieces::new(rt.alloc()),
             columns: if is_line_told {
                 Some(columns_told(rt))
@@ -79,7 +84,9 @@ impl<'a> Beside<'a> {
     }
 
     // How much time went by since this was first asked; none where the clock can't be read.
-    fn time_gone(&mut self) -> Option<Duration> {
+    fn time_gone(&mut self) -> Option<Duration>
+        ensures { self.new.has_refused ≡ self.old.has_refused }
+    {
         let Some(start) = self.start else {
             self.start = Instant::now(self.rt).ok();
             return self.start.map(|_| Duration::from_secs(0));
@@ -88,20 +95,53 @@ impl<'a> Beside<'a> {
     }
 
     // How much of the time is left; none where it is over.
-    fn left_of(&mut self, limit: Duration) -> Option<Duration> {
+    fn left_of(&mut self, limit: Duration) -> Option<Duration>
+        ensures { self.new.has_refused ≡ self.old.has_refused }
+    {
         let elapsed = self.time_gone()?;
         self.pieces.end_at(elapsed);
         let left = limit.checked_sub(elapsed)?;
         if left.is_zero() { None } else { Some(left) }
     }
 
+    // Begins a piece of work where the time that is left is likely to do. Whether it is.
+    fn begin(&mut self, work: Work, turn: u32) -> bool
+        ensures { self.new.has_refused ≡ self.old.has_refused }
+    {
+        let Some(limit) = self.limit else {
+            return true;
+        };
+        let Some(left) = self.left_of(limit) else {
+            return false;
+        };
+        if !self.pieces.has_room(work, turn, left) {
+            return false;
+        }
+        self.pieces.begin(work, limit.saturating_sub(left));
+        true
+    }
+
+    // Puts blanks over the line that is shown.
+    fn wipe(&mut self)
+        ensures { self.new.has_refused ≡ self.old.has_refused }
+    {
+        if self.told > 0 {
+            if let Ok(blanks) = " ".repeat(self.rt.alloc(), self.told) {
+                let _ = eprint!(self.rt; "\r{blanks}\r");
+            }
+            self.told = 0;
+        }
+    }
+
     // Writes the line that tells what is sought, and how far it is, as much of it as has room. The
     // cursor goes back to its start, so that what is written next stands over it.
-    fn write_line(&mut self, figures: &str) {
+    fn write_line(&mut self, figures: &str)
+        ensures { self.new.has_refused ≡ self.old.has_refused }
+    {
         let Some(columns) = self.columns else {
             return;
         };
-        self.clear();
+        self.wipe();
         let Ok(words) = words_of(self.rt.alloc(), self.sought) else {
             return;
         };
@@ -115,27 +155,22 @@ impl<'a> Beside<'a> {
 }
 
 impl<'a> Watch for Beside<'a> {
+    ghost has_refused = { λ b. b.has_refused };
+
     fn is_over(&mut self) -> bool {
         if let Some(limit) = self.limit {
             if !self.is_over {
                 self.is_over = self.left_of(limit).is_none();
             }
         }
+        self.has_refused = self.has_refused || self.is_over;
         self.is_over
     }
 
     fn has_room(&mut self, work: Work, turn: u32) -> bool {
-        let Some(limit) = self.limit else {
-            return true;
-        };
-        let Some(left) = self.left_of(limit) else {
-            return false;
-        };
-        if !self.pieces.has_room(work, turn, left) {
-            return false;
-        }
-        self.pieces.begin(work, limit.saturating_sub(left));
-        true
+        let has_room = self.begin(work, turn);
+        self.has_refused = self.has_refused || !has_room;
+        has_room
     }
 
     fn tell(&mut self, kind: ClaimKind, progress: Progress) {
@@ -164,11 +199,6 @@ impl<'a> Company for Beside<'a> {
     }
 
     fn clear(&mut self) {
-        if self.told > 0 {
-            if let Ok(blanks) = " ".repeat(self.rt.alloc(), self.told) {
-                let _ = eprint!(self.rt; "\r{blanks}\r");
-            }
-            self.told = 0;
-        }
+        self.wipe();
     }
 }

@@ -3,7 +3,6 @@
 
 mod answering;
 mod company;
-mod greatest;
 mod inlet;
 mod kinds;
 mod meant;
@@ -16,6 +15,7 @@ mod refused;
 mod report_file;
 mod request;
 mod same_file;
+mod statuses;
 mod telling;
 #[cfg(test)]
 mod tests;
@@ -26,7 +26,7 @@ ghost use Rattle.std.specs.IoError.{error_kind};
 ghost use Rattle.psat_ask.specs.Refusals.{refused_by};
 ghost use Rattle.psat_ask.specs.Requests.{HasSettings};
 
-use crate::answering::{answer_all, show};
+use crate::answering::{answer_asked, show};
 use crate::refused::{Refused, WRONG_WORDS};
 use crate::request::{Request, request_of};
 use crate::telling::tell_fault;
@@ -64,7 +64,7 @@ fn main(rt: HostRuntime) -> ExitCode {
     let status = match request_behind_name(rt.alloc(), env::args(&rt)) {
         Ok(Request::Help) => show(&rt, HELP),
         Ok(Request::Version) => show(&rt, VERSION),
-        Ok(Request::Ask(asked)) => answer_all(&rt, &asked),
+        Ok(Request::Ask(asked)) => answer_asked(&rt, &asked),
         Err(refused) => {
             tell_refused(&rt, &refused);
             refused.status()

@@ -1,10 +1,11 @@
 //! What the words behind the program's name ask for.
-ghost use Rattle.std.specs.Prelude.{◌≡◌, IfOk, IsOk, OnOk, true};
+ghost use Rattle.std.specs.Prelude.{◌≡◌, IfOk, IsOk, OnOk, map, string_bytes, true};
 ghost use Rattle.ps_ask.specs.Shown.{AreSettings};
+ghost use Rattle.psat_ask.specs.declared.options.Valued.TheVariants as valued;
 ghost use Rattle.psat_ask.specs.declared.request.Next.TheVariants as next;
-ghost use Rattle.psat_ask.specs.Options.{TakesStyle};
-ghost use Rattle.psat_ask.specs.Requests.{HasSettings, IsFile, IsNoValue, IsOf, IsSetBy, LeavesKinds};
-ghost use Rattle.psat_ask.specs.Requests.{Sets, SetsFlag, SetsReport, SetsTime, TakesJoined, TookOr};
+ghost use Rattle.psat_ask.specs.Choices.{TakesFile, TakesStyle, choices_of};
+ghost use Rattle.psat_ask.specs.Requests.{HasSettings, IsAskedBy, IsFile, IsNoValue, IsOf};
+ghost use Rattle.psat_ask.specs.Requests.{TakesFlag, TakesJoined, TakesKinds, TakesValue, TookOr};
 
 use crate::kinds::{no_kinds, without_kinds};
 use crate::meant::unknown;
@@ -95,7 +96,7 @@ impl Reading {
     fn report(&mut self, alloc: Global, value: &str) -> Result<(), Refused>
         requires { AreSettings self.old.asked.settings }
         ensures set { OnOk result
-            (SetsReport value.now self.old.asked.settings self.new.asked.settings) }
+            (TakesValue valued.Report value.now self.old.asked self.new.asked) }
         ensures lawful { AreSettings self.new.asked.settings }
         ensures next { self.new.next ≡ self.old.next }
     {
@@ -117,7 +118,7 @@ impl Reading {
     fn time_limit(&mut self, value: &str) -> Result<(), Refused>
         requires { AreSettings self.old.asked.settings }
         ensures set { OnOk result
-            (SetsTime value.now self.old.asked.settings self.new.asked.settings) }
+            (TakesValue valued.TimeLimit value.now self.old.asked self.new.asked) }
         ensures lawful { AreSettings self.new.asked.settings }
         ensures next { self.new.next ≡ self.old.next }
     {
@@ -133,7 +134,7 @@ impl Reading {
     fn number(&mut self, option: Valued, value: &str) -> Result<(), Refused>
         requires { AreSettings self.old.asked.settings }
         ensures set { OnOk result
-            (Sets option value.now self.old.asked.settings self.new.asked.settings) }
+            (TakesValue option value.now self.old.asked self.new.asked) }
         ensures lawful { AreSettings self.new.asked.settings }
         ensures next { self.new.next ≡ self.old.next }
     {
@@ -150,7 +151,7 @@ impl Reading {
     fn value(&mut self, alloc: Global, option: Valued, value: &str) -> Result<(), Refused>
         requires { AreSettings self.old.asked.settings }
         ensures set { OnOk result
-            (Sets option value.now self.old.asked.settings self.new.asked.settings) }
+            (TakesValue option value.now self.old.asked self.new.asked) }
         ensures lawful { AreSettings self.new.asked.settings }
         ensures next { self.new.next ≡ self.old.next }
     {
@@ -164,8 +165,7 @@ impl Reading {
     // Leaves out kinds of warnings.
     fn no_warnings(&mut self, alloc: Global, kinds: &str) -> Result<(), Refused>
         requires { AreSettings self.old.asked.settings }
-        ensures set { OnOk result
-            (LeavesKinds kinds.now self.old.asked.settings self.new.asked.settings) }
+        ensures set { OnOk result (TakesKinds kinds.now self.old.asked self.new.asked) }
         ensures lawful { AreSettings self.new.asked.settings }
         ensures next { self.new.next ≡ self.old.next }
     {
@@ -202,8 +202,7 @@ impl Reading {
     // Reads an option without a value.
     fn flag(&mut self, alloc: Global, word: &str) -> Result<(), Refused>
         requires { AreSettings self.old.asked.settings }
-        ensures set { OnOk result
-            (SetsFlag word.now self.old.asked.settings self.new.asked.settings) }
+        ensures set { OnOk result (TakesFlag word.now self.old.asked self.new.asked) }
         ensures lawful { AreSettings self.new.asked.settings }
         ensures next { self.new.next ≡ self.old.next }
     {
@@ -263,6 +262,7 @@ impl Reading {
     // Takes a word as a file.
     fn file(&mut self, alloc: Global, word: &str) -> Result<(), Refused>
         requires { AreSettings self.old.asked.settings }
+        ensures taken { OnOk result (TakesFile word.now self.old.asked self.new.asked) }
         ensures kept { self.new.asked.settings ≡ self.old.asked.settings }
         ensures next { self.new.next ≡ self.old.next }
     {
@@ -272,7 +272,7 @@ impl Reading {
 
     // Reads an option, or takes a word as a file.
     #[tactic(auto, using(crate::proofs::RequestLaws::took_file))]
-    fn free(&mut self, alloc: Global, word: &str) -> Result<Option<Request>, Refused>
+    fn option_or_file(&mut self, alloc: Global, word: &str) -> Result<Option<Request>, Refused>
         requires settings { AreSettings self.old.asked.settings }
         requires next { self.old.next ≡ next.Word }
         ensures settings { AreSettings self.new.asked.settings }
@@ -293,7 +293,7 @@ impl Reading {
         ensures took { TookOr result word.now self.old self.new }
     {
         match self.next {
-            Next::Word => self.free(alloc, word),
+            Next::Word => self.option_or_file(alloc, word),
             Next::Value(option) => {
                 self.value(alloc, option, word)?;
                 self.next = Next::Word;
@@ -310,7 +310,7 @@ impl Reading {
     fn end(self) -> Result<Request, Refused>
         requires { AreSettings self.asked.settings }
         ensures settings { IfOk result HasSettings }
-        ensures asked { IfOk result (IsOf self.asked.settings) }
+        ensures asked { IfOk result (IsOf (choices_of self.asked)) }
         ensures ended { IsOk result → IsNoValue self.next }
     {
         if let Next::Value(option) = self.next {
@@ -331,10 +331,10 @@ fn is_file(word: &str) -> bool
 }
 
 /// What the words behind the program's name ask for.
-#[tactic(auto, using(crate::proofs::RequestLaws::leads_first, crate::proofs::RequestLaws::leads_next, crate::proofs::RequestLaws::leads_last))]
+#[tactic(auto, using(crate::proofs::RequestLaws::leads_first, crate::proofs::RequestLaws::leads_next, crate::proofs::RequestLaws::leads_last, crate::proofs::RequestLaws::asked_there, crate::proofs::RequestLaws::lawful_text))]
 pub fn request_of(alloc: Global, words: &[String]) -> Result<Request, Refused>
     ensures lawful { IfOk result HasSettings }
-    ensures set { IfOk result (IsSetBy words.now) }
+    ensures asked { IfOk result (IsAskedBy (map string_bytes words.now)) }
 {
     let mut reading = Reading {
         asked: Asked {

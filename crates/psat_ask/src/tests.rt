@@ -1,42 +1,37 @@
-//! What words ask for, and the report of an answer.
+//! What words ask for, and the number behind several answers.
 ghost use Rattle.std.specs.Prelude.{IfSome};
 ghost use Rattle.ps_ask.specs.Shown.{AreSettings};
-ghost use Rattle.ps_valid.specs.Limits.{IsSmallAnswer};
 ghost use Rattle.psat_ask.specs.Requests.{HasSettings};
+
+mod reports;
 
 use crate::progress::figures_of;
 use crate::refused::Refused;
 use crate::request::{Asked, Request, request_of};
-use ps_answer::Answer;
-use ps_ask::{
-    ClaimKind, Company, Progress, Settings, Sinks, Sought, Status, Style, Wanted, WarningKind,
-    Watch, Work, ask,
-};
-use ps_io::{MemSink, MemSource, NoMemory};
-use ps_read::read_whole;
-use ps_reader::read_report;
-use ps_valid::{check, reports_are_small};
+use crate::statuses::{Answering, answer_all};
+use ps_ask::{ClaimKind, Progress, Settings, Status, Style, Wanted, WarningKind};
 use std::alloc::Global;
 use std::test::*;
+
+// Words, as the system hands them out.
+fn words_of(alloc: Global, words: &[&'static str]) -> Option<Vec<String>> {
+    let mut all = Vec::new(alloc);
+    for word in words {
+        all.push(String::from_str(alloc, word).ok()?).ok()?;
+    }
+    Some(all)
+}
 
 // The request of words.
 fn request(alloc: Global, words: &[&'static str]) -> Option<Request>
     ensures { IfSome result HasSettings }
 {
-    let mut all = Vec::new(alloc);
-    for word in words {
-        all.push(String::from_str(alloc, word).ok()?).ok()?;
-    }
-    request_of(alloc, &all).ok()
+    request_of(alloc, &words_of(alloc, words)?).ok()
 }
 
 // The fault of words, as it is told.
 fn fault(alloc: Global, words: &[&'static str]) -> Option<String> {
-    let mut all = Vec::new(alloc);
-    for word in words {
-        all.push(String::from_str(alloc, word).ok()?).ok()?;
-    }
-    let refused = request_of(alloc, &all).err()?;
+    let refused = request_of(alloc, &words_of(alloc, words)?).err()?;
     format!(in alloc; "{refused}").ok()
 }
 
@@ -322,86 +317,6 @@ fn other_words_are_refused(rt: HostRuntime) {
     assert!(rt; FAULTS.iter().all(|row| is_refused(alloc, row.0, row.1)));
 }
 
-const PROBLEM: &[u8] = b"psat 1; P(a) in [1/3, 1/2]; P(b given a) >= 2/3; query P(b); end;";
-
-/// Nothing is beside an answer: no clock, and nobody is told.
-#[derive(Drop)]
-struct Alone;
-
-impl Watch for Alone {
-    fn is_over(&mut self) -> bool {
-        false
-    }
-
-    fn has_room(&mut self, _work: Work, _turn: u32) -> bool {
-        true
-    }
-
-    fn tell(&mut self, _kind: ClaimKind, _progress: Progress) {}
-}
-
-impl Company for Alone {
-    fn note(&mut self, _text: &[u8]) {}
-
-    fn turn_to(&mut self, _sought: Sought) {}
-
-    fn clear(&mut self) {}
-}
-
-// The ends of an answer in memory.
-fn sinks(alloc: Global) -> Result<Sinks<MemSink, MemSink>, NoMemory> {
-    Ok(Sinks {
-        shown: MemSink::new(alloc, 100, Vec::new(alloc), 10_000)?,
-        report: MemSink::new(alloc, 100, Vec::new(alloc), 10_000)?,
-    })
-}
-
-// The answer of a report.
-fn answer_of(alloc: Global, report: &[u8]) -> Option<Answer>
-    ensures { IfSome result IsSmallAnswer }
-{
-    reports_are_small();
-    match read_report(alloc, report) {
-        Ok(answer) => Some(answer),
-        Err(_) => None,
-    }
-}
-
-// The answer of the report that is written, alone or beside what is shown.
-fn reported(alloc: Global, words: &[&'static str]) -> Option<Answer>
-    ensures { IfSome result IsSmallAnswer }
-{
-    let settings = asked(alloc, words)?.settings;
-    let bytes = Vec::from_slice(alloc, PROBLEM).ok()?;
-    let mut source = MemSource::new(bytes, 100, Vec::new(alloc));
-    let mut sinks = sinks(alloc).ok()?;
-    let status = ask(alloc, settings, "f", &mut source, &mut sinks, &mut Alone);
-    if status != Status::Done {
-        return None;
-    }
-    if settings.style == Style::Report {
-        answer_of(alloc, sinks.shown.bytes())
-    } else {
-        answer_of(alloc, sinks.report.bytes())
-    }
-}
-
-// Whether the report that is written for words is accepted, with its three claims.
-fn is_accepted(alloc: Global, words: &[&'static str]) -> bool {
-    match (read_whole(alloc, PROBLEM), reported(alloc, words)) {
-        (Ok(problem), Some(answer)) => {
-            matches!(check(alloc, &problem, &answer), Ok(accepted) if accepted.claims == 3)
-        }
-        _ => false,
-    }
-}
-
-#[test]
-fn reports_are_accepted(rt: HostRuntime) {
-    let alloc = rt.alloc();
-    assert!(rt; is_accepted(alloc, &["--report", "r"]) && is_accepted(alloc, &["--report", "-"]));
-}
-
 #[test]
 fn a_limit_of_time_is_asked_for(rt: HostRuntime) -> Result<(), Fail> {
     let alloc = rt.alloc();
@@ -420,4 +335,51 @@ fn a_limit_of_time_is_asked_for(rt: HostRuntime) -> Result<(), Fail> {
         assert!(rt; fault.as_str() == "--time-limit takes a number of seconds from 1 to 86400");
     }
     Ok(())
+}
+
+/// Answers with these statuses, one after the other.
+#[derive(Drop)]
+struct Told {
+    statuses: &'static [Status],
+    answered: usize,
+}
+
+impl Answering for Told {
+    ghost answers = { λ _ _ _ _. Unit {0} };
+
+    fn answer(&mut self, _file: &str) -> Status {
+        let status = self.statuses.get(self.answered).copied();
+        self.answered = self.answered.saturating_add(1);
+        status.unwrap_or(Status::Done)
+    }
+}
+
+// Whether so many problems are answered for words by these statuses, with this number behind them.
+fn is_number_behind(
+    alloc: Global,
+    words: &[&'static str],
+    statuses: &'static [Status],
+    answered: usize,
+    number: u8,
+) -> bool {
+    let mut told = Told {
+        statuses,
+        answered: 0,
+    };
+    match words_of(alloc, words) {
+        Some(files) => answer_all(&mut told, &files) == number && told.answered == answered,
+        None => false,
+    }
+}
+
+const OPEN: &[Status] = &[Status::Done, Status::Unfinished, Status::Inconsistent];
+
+const UNWRITTEN: &[Status] = &[Status::ReadFault, Status::WriteFault, Status::NoMemory];
+
+#[test]
+fn the_greatest_status_is_the_number(rt: HostRuntime) {
+    let alloc = rt.alloc();
+    assert!(rt; is_number_behind(alloc, &["a", "b", "c"], OPEN, 3, 4));
+    assert!(rt; is_number_behind(alloc, &["a", "b", "c"], UNWRITTEN, 2, 6));
+    assert!(rt; is_number_behind(alloc, &[], &[Status::Inconsistent], 1, 1));
 }

@@ -7,11 +7,14 @@ Usage: psat_ask [OPTIONS] [FILE]..
 
 Each FILE holds a problem. Without one, and for -, standard input is read. A problem:
 
-    psat 1;
+    psat 2;
     P(rain) = 0.7;
     P(wet given rain) >= 0.9;
+    P(rain) - 2 P(snow) >= 0;
     query P(wet);
     end;
+
+A text that begins with psat 1; is read too, and holds no sums or differences.
 
 Options:
   --digits N      digits of decimals behind the point, 1 to 18 (6)

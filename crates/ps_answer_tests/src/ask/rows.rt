@@ -81,6 +81,40 @@ const CLASH_OBJECT: &str = concat!(
     "\"status\":1}\n",
 );
 
+// Sentences are shown by their canonical text.
+const SUMS: &[u8] = b"psat 2; P(a) - P(b) >= 0.5;
+P(c) = 1/2;
+2/2 P(a) + P((b)) <= 0.25; end;";
+
+const SUMS_WORDS: &str = "inconsistent: no distribution meets all sentences
+these sentences clash:
+  sentence 1, line 1: 1 P(a) - 1 P(b) >= 1/2;
+  sentence 3, line 3: 1 P(a) + 1 P(b) <= 1/4;
+leave any one of them out, and all the others can be met together
+";
+
+const SUMS_OBJECT: &str = concat!(
+    "{\"file\":\"f\",\"verdict\":\"inconsistent\",\"why\":null,\"queries\":[],",
+    "\"clash\":{\"irreducible\":true,\"why\":null,\"sentences\":[",
+    "{\"number\":1,\"line\":1,\"text\":\"1 P(a) - 1 P(b) >= 1/2;\",\"without\":\"met\"},",
+    "{\"number\":3,\"line\":3,\"text\":\"1 P(a) + 1 P(b) <= 1/4;\",\"without\":\"met\"}]},",
+    "\"counts\":{\"atoms\":3,\"sentences\":3,\"bounds\":3,\"queries\":0,\"open\":0},",
+    "\"warnings\":[],",
+    "\"status\":1}\n",
+);
+
+// A ranking of three that exclude each other: the least has a third at most.
+const RANKED: &[u8] = b"psat 2; P(a & b | a & c | b & c) = 0;
+P(a) - P(b) >= 0; P(b) - P(c) >= 0;
+query P(c); query P(a given a | b | c); end;";
+
+const RANKED_WORDS: &str = "consistent: some distribution meets all sentences
+P(c)
+  between 0 and 1/3 (0.000 to 0.334)
+P(a given a | b | c)
+  between 1/3 and 1 (0.333 to 1.000)
+";
+
 const NOTE: &str = "f:1:13: found `b`, expected `&`, `|`, `->`, `<->`, `given` or `)`
   psat 1; P(a b) = 1; end;
               ^
@@ -119,7 +153,7 @@ pub struct Row {
     pub status: Status,
 }
 
-pub const ROWS: [Row; 12] = [
+pub const ROWS: [Row; 15] = [
     Row {
         text: PROBLEM,
         style: Style::Words,
@@ -175,6 +209,27 @@ pub const ROWS: [Row; 12] = [
         shown: "inconsistent\n",
         noted: "",
         status: Status::Inconsistent,
+    },
+    Row {
+        text: SUMS,
+        style: Style::Words,
+        shown: SUMS_WORDS,
+        noted: "",
+        status: Status::Inconsistent,
+    },
+    Row {
+        text: SUMS,
+        style: Style::Json,
+        shown: SUMS_OBJECT,
+        noted: "",
+        status: Status::Inconsistent,
+    },
+    Row {
+        text: RANKED,
+        style: Style::Words,
+        shown: RANKED_WORDS,
+        noted: "",
+        status: Status::Done,
     },
     Row {
         text: UNREADABLE,

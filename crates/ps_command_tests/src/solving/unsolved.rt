@@ -17,7 +17,7 @@ const UNSOLVED: [(&str, &str); 4] = [
         "psat 1;\nP(a) = 1/2;\nend;\nx",
         "unreadable: more after end at 4:1\n",
     ),
-    ("psat 2;\nend;", "unreadable: version unknown at 1:6\n"),
+    ("psat 3;\nend;", "unreadable: version unknown at 1:6\n"),
 ];
 
 // Words of no command: of `solve` with limits that are wrong, and of `check` with those of `solve`.

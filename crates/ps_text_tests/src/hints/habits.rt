@@ -1,25 +1,31 @@
 //! Messages about what people write from habit.
 use super::message;
-use super::table::HABITS;
+use super::table::{HABITS, SUMS};
 use ps_io::NoMemory;
 use std::alloc::Global;
 use std::test::*;
 
-// Whether the message about a text with this line says so.
-fn says(alloc: Global, line: &str, so: &str) -> Result<bool, NoMemory> {
-    let mut text = String::from_str(alloc, "psat 1;\n")?;
+// The heads of the two versions.
+const ONE: &str = "psat 1;\n";
+
+const TWO: &str = "psat 2;\n";
+
+// Whether the message about a text with this line says so, or there is none.
+fn says(alloc: Global, head: &str, line: &str, so: Option<&str>) -> Result<bool, NoMemory> {
+    let mut text = String::from_str(alloc, head)?;
     text.push_str(line)?;
     text.push_str("\nend;\n")?;
-    Ok(match message(alloc, text.as_bytes()) {
-        Some(message) => message.as_str().contains(so),
-        None => false,
+    Ok(match (message(alloc, text.as_bytes()), so) {
+        (Some(message), Some(so)) => message.as_str().contains(so),
+        (None, None) => true,
+        _ => false,
     })
 }
 
 // The first line about which the message doesn't say so.
-fn first_wrong(alloc: Global) -> &'static str {
+fn first_wrong(alloc: Global, head: &str) -> &'static str {
     for habit in &HABITS {
-        if says(alloc, habit.line, habit.says) != Ok(true) {
+        if says(alloc, head, habit.line, Some(habit.says)) != Ok(true) {
             return habit.line;
         }
     }
@@ -28,7 +34,26 @@ fn first_wrong(alloc: Global) -> &'static str {
 
 #[test]
 fn habits_have_hints(rt: HostRuntime) -> Result<(), Fail> {
-    assert!(rt; first_wrong(rt.alloc()) == "none");
+    assert!(rt; first_wrong(rt.alloc(), ONE) == "none");
+    assert!(rt; first_wrong(rt.alloc(), TWO) == "none");
+    Ok(())
+}
+
+// The first sum about which the message doesn't say so.
+fn first_wrong_sum(alloc: Global) -> &'static str {
+    for sum in &SUMS {
+        if says(alloc, ONE, sum.line, Some(sum.one)) != Ok(true)
+            || says(alloc, TWO, sum.line, sum.two) != Ok(true)
+        {
+            return sum.line;
+        }
+    }
+    "none"
+}
+
+#[test]
+fn sums_lead_to_what_is_meant(rt: HostRuntime) -> Result<(), Fail> {
+    assert!(rt; first_wrong_sum(rt.alloc()) == "none");
     Ok(())
 }
 

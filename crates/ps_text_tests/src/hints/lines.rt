@@ -21,6 +21,23 @@ fn sentences_have_lines(rt: HostRuntime) -> Result<(), Fail> {
     Ok(())
 }
 
+const SUMS: &[u8] = b"psat 2; # 2 P(no) = 1;
+2 P(a) - 1 P(b) >= 1; # - P(no)
+- P(b)
+ + 3 P(a) >= 0; 1/2 P(a) = 0;
+query P(a); P(b) = 1;
+end;
+";
+
+#[test]
+fn linear_sentences_have_lines(rt: HostRuntime) -> Result<(), Fail> {
+    let lines = sentence_lines(rt.alloc(), SUMS)?;
+    assert!(rt; lines.as_slice() == [2, 3, 4, 5].as_slice());
+    let lines = query_lines(rt.alloc(), SUMS)?;
+    assert!(rt; lines.as_slice() == [5].as_slice());
+    Ok(())
+}
+
 #[test]
 fn queries_have_lines(rt: HostRuntime) -> Result<(), Fail> {
     let lines = query_lines(rt.alloc(), TEXT)?;

@@ -7,7 +7,7 @@ pub(super) struct Habit {
 }
 
 /// A line with each of the habits, and what the message says: where, or what to write.
-pub(super) const HABITS: [Habit; 75] = [
+pub(super) const HABITS: [Habit; 70] = [
     Habit {
         line: "P(a ==> b) = 1;",
         says: "write -> for",
@@ -91,26 +91,6 @@ pub(super) const HABITS: [Habit; 75] = [
     Habit {
         line: "P(a : b) = 1;",
         says: "P(a given b)",
-    },
-    Habit {
-        line: "2 * P(a) <= 1;",
-        says: "write P(a) <= 1/2 for 2 * P(a) <= 1",
-    },
-    Habit {
-        line: "2 P(a) <= 1;",
-        says: "write P(a) <= 1/2 for 2 * P(a) <= 1",
-    },
-    Habit {
-        line: "P(a) + P(b) <= 1;",
-        says: "a sentence bounds one P(..), no sum",
-    },
-    Habit {
-        line: "P(a) - P(b) <= 1;",
-        says: "a sentence bounds one P(..), no sum",
-    },
-    Habit {
-        line: "P(a) * P(b) <= 1;",
-        says: "a sentence bounds one P(..), no sum",
     },
     Habit {
         line: "P(a) = 1 - 0.3;",
@@ -307,5 +287,115 @@ pub(super) const HABITS: [Habit; 75] = [
     Habit {
         line: "P(a) ≤ 1;",
         says: "write <= for \"at most\"\n",
+    },
+];
+
+/// A line of a problem, and what the message about it says in each version: nothing where the line is
+/// one of version 2.
+pub(super) struct Sum {
+    pub(super) line: &'static str,
+    pub(super) one: &'static str,
+    pub(super) two: Option<&'static str>,
+}
+
+// What the messages about sums say in version 1.
+const BEGIN: &str = "begin the text with psat 2; for sums: P(a) + P(b) <= 1, or 2 P(a) - 1/3 P(b)";
+
+/// Lines with sums and multiples of probabilities.
+pub(super) const SUMS: [Sum; 19] = [
+    Sum {
+        line: "P(a) + P(b) <= 1;",
+        one: BEGIN,
+        two: None,
+    },
+    Sum {
+        line: "P(a) - P(b) >= 0;",
+        one: BEGIN,
+        two: None,
+    },
+    Sum {
+        line: "2 P(a) <= 1;",
+        one: BEGIN,
+        two: None,
+    },
+    Sum {
+        line: "- P(a) <= 1;",
+        one: BEGIN,
+        two: None,
+    },
+    Sum {
+        line: "2 * P(a) <= 1;",
+        one: BEGIN,
+        two: Some("write 2 P(a) for 2 * P(a)"),
+    },
+    Sum {
+        line: "P(a) >= P(b);",
+        one: "psat 2; and write P(a) - P(b) >= 0 for P(a) >= P(b)",
+        two: Some("hint: write P(a) - P(b) >= 0 for P(a) >= P(b)"),
+    },
+    Sum {
+        line: "P(a) >= 2 * P(b);",
+        one: "psat 2; and write P(a) - 2 P(b) >= 0 for P(a) >= 2 * P(b)",
+        two: Some("hint: write P(a) - 2 P(b) >= 0 for P(a) >= 2 * P(b)"),
+    },
+    Sum {
+        line: "P(a) >= 2 P(b);",
+        one: "psat 2; and write P(a) - 2 P(b) >= 0 for P(a) >= 2 * P(b)",
+        two: Some("hint: write P(a) - 2 P(b) >= 0 for P(a) >= 2 * P(b)"),
+    },
+    Sum {
+        line: "P(a) >= 0.5 * P(b);",
+        one: "psat 2; and write P(a) - 2 P(b) >= 0 for P(a) >= 2 * P(b)",
+        two: Some("hint: write P(a) - 2 P(b) >= 0 for P(a) >= 2 * P(b)"),
+    },
+    Sum {
+        line: "P(a) >= 1/2 P(b);",
+        one: "psat 2; and write P(a) - 2 P(b) >= 0 for P(a) >= 2 * P(b)",
+        two: Some("hint: write P(a) - 2 P(b) >= 0 for P(a) >= 2 * P(b)"),
+    },
+    Sum {
+        line: "P(a) >= 1 - P(b);",
+        one: "psat 2; and write P(a) + P(b) >= 1 for P(a) >= 1 - P(b)",
+        two: Some("hint: write P(a) + P(b) >= 1 for P(a) >= 1 - P(b)"),
+    },
+    Sum {
+        line: "P(a) = 0.1 + 2 P(b);",
+        one: "psat 2; and write P(a) + P(b) >= 1 for P(a) >= 1 - P(b)",
+        two: Some("hint: write P(a) + P(b) >= 1 for P(a) >= 1 - P(b)"),
+    },
+    Sum {
+        line: "P(a) * P(b) <= 1;",
+        one: "probabilities aren't multiplied",
+        two: Some("probabilities aren't multiplied"),
+    },
+    Sum {
+        line: "P(a & b) / P(b) = 1;",
+        one: "write P(a given b) for P(a & b) / P(b)",
+        two: Some("write P(a given b) for P(a & b) / P(b)"),
+    },
+    Sum {
+        line: "query P(a) + P(b);",
+        one: "a query asks for one P(..)",
+        two: Some("a query asks for one P(..)"),
+    },
+    Sum {
+        line: "query 2 P(a);",
+        one: "a query asks for one P(..)",
+        two: Some("a query asks for one P(..)"),
+    },
+    Sum {
+        line: "P(a given b) + P(c) <= 1;",
+        one: "psat 2; and write P(a & c) - P(b & c) >= 0, with no given",
+        two: Some("in a sum write P(a & c) - P(b & c)"),
+    },
+    Sum {
+        line: "P(a) = P(b) + P(c);",
+        one: "psat 2; and write P(a) - P(b) >= 0 for P(a) >= P(b)",
+        two: Some("hint: write P(a) - P(b) >= 0 for P(a) >= P(b)"),
+    },
+    Sum {
+        line: "P(a) × P(b) <= 1;",
+        one: "probabilities aren't multiplied",
+        two: Some("probabilities aren't multiplied"),
     },
 ];

@@ -27,10 +27,10 @@ fn a_byte_order_mark(rt: HostRuntime) -> Result<(), Fail> {
 
 #[test]
 fn a_missing_version(rt: HostRuntime) -> Result<(), Fail> {
-    let told = "f:2:1: found `P`, expected `psat 1;`
+    let told = "f:2:1: found `P`, expected `psat 1;` or `psat 2;`
   P(a) = 1;
   ^
-  hint: a problem begins with psat 1;
+  hint: a problem begins with psat 1; or psat 2;
 ";
     assert!(rt; is_told(rt.alloc(), b"# so\nP(a) = 1;\nend;\n", told));
     Ok(())
@@ -38,12 +38,12 @@ fn a_missing_version(rt: HostRuntime) -> Result<(), Fail> {
 
 #[test]
 fn another_version(rt: HostRuntime) -> Result<(), Fail> {
-    let told = "f:1:6: found `2`, expected the version 1
-  psat 2;
+    let told = "f:1:6: found `3`, expected the version 1 or 2
+  psat 3;
        ^
-  hint: a problem begins with psat 1;
+  hint: a problem begins with psat 1; or psat 2;
 ";
-    assert!(rt; is_told(rt.alloc(), b"psat 2;\nend;\n", told));
+    assert!(rt; is_told(rt.alloc(), b"psat 3;\nend;\n", told));
     Ok(())
 }
 
@@ -151,6 +151,26 @@ fn too_many_queries(rt: HostRuntime) -> Result<(), Fail> {
   hint: ask in several files
 ";
     assert!(rt; is_told(rt.alloc(), text.as_bytes(), told));
+    Ok(())
+}
+
+#[test]
+fn too_many_terms(rt: HostRuntime) -> Result<(), Fail> {
+    let mut text = String::from_str(rt.alloc(), "psat 2;\n")?;
+    for _term in 0..16 {
+        text.push_str("P(a)+")?;
+    }
+    text.push_str("P(b) >= 1;\nend;\n")?;
+    // The sixteenth sign is the 80th byte of its line.
+    let told = message(rt.alloc(), text.as_bytes()).expect(&rt, "a message");
+    assert!(rt;
+        told.as_str()
+            == "f:2:80: found `+`, expected at most 16 terms in a sentence
+  ...(a)+P(a)+P(a)+P(a)+P(a)+P(a)+P(a)+P(a)+P(a)+P(a)+P(b) >= 1;
+                                                     ^
+  hint: where a and b exclude each other, write P(a | b) for P(a) + P(b)
+"
+    );
     Ok(())
 }
 

@@ -41,7 +41,7 @@ fn first_wrong(alloc: Global, rows: &[Row]) -> &'static str {
     }
 }
 
-const ROWS: [Row; 9] = [
+const ROWS: [Row; 10] = [
     // A name in a comment isn't used; an `or` is warned of in a query, and in a sentence that states no law.
     Row {
         text: "psat 1;
@@ -140,6 +140,21 @@ end;
 ",
         lines: "f:2: warning: valve_lfet_open is used once; is valve_left_open meant?
 f:4: warning: presure_hihg is used once; is presure_high meant?
+",
+    },
+    // Each formula of a sum is looked at, and a sum is told as it stands in the canonical text.
+    Row {
+        text: "psat 2;
+2 P(dry | wet) - P(dry) >= 0;
+P(hot) + P(wet) in [1/2, 1/4]; P(hot) + P(wet) in [-1, 1];
+P(dry) - P(hot) >= 0;
+1 P(dry) - 3/3 P(hot) >= 0.0; query P(hot & fog);
+end;
+",
+        lines: "f:2: warning: P(dry | wet): | is \"or\"; for a condition write given
+f:3: warning: 1 P(hot) + 1 P(wet) in [1/2, 1/4]: the ends of the interval are turned round, so nothing meets it
+f:5: warning: 1 P(dry) - 1 P(hot) >= 0: the same sentence stands on line 4
+f:5: warning: fog stands in no sentence, so nothing is known of it
 ",
     },
     // The rarer one is blamed, also where it comes first.

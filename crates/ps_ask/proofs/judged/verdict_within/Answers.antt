@@ -9,5 +9,5 @@ pub returns-in-Some : goal.returns-in-Some
 returns-in-Some g c =
     let s = c.args.settings in
     let p = c.args.trials.now in
-    let h = subst (λ (o : Option (Verdict × List Event)). IfSome o (λ r. IsAnsweredVerdict s.limits p r.0 r.1)) c.in-Some.is c.in_ok-found.ensures in
+    let h = subst (λ (o : Option (Verdict × List Event)). IfSome o (λ r. IsAnsweredVerdict s.limits p r.0 r.1)) c.in-Some.is c.in_ok-found.ensures.told in
     shown_verdict s p c.in-Some.found.0 c.in-Some.found.1 c.problem-sound.ensures.parts h

@@ -1,4 +1,4 @@
-use Rattle.ps_commands.proofs.Answering.{faultless_answer, problem_explained, problem_made, problem_solved, report_judged}
+use Rattle.ps_commands.proofs.Answering.{faultless_answer, problem_explained, problem_made, problem_solved, problem_upgraded, report_judged}
 use Rattle.ps_commands.proofs.laws.faultless_runs_answer.Goals as goal
 
 pub returns-clause-answered : goal.returns-clause-answered
@@ -15,3 +15,6 @@ returns-clause-explained c = problem_explained
 
 pub returns-clause-made : goal.returns-clause-made
 returns-clause-made c = problem_made
+
+pub returns-clause-upgraded : goal.returns-clause-upgraded
+returns-clause-upgraded c = problem_upgraded

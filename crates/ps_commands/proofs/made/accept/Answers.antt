@@ -2,7 +2,7 @@ use Rattle.ps_commands.proofs.MadeText.{never_refused, solution_small}
 use Rattle.ps_commands.proofs.made.accept.Goals as goal
 
 pub check-requires : goal.check-requires
-check-requires c = record { limits = solution_small c.args.limits c.args.problem.now c.args.answer.now c.bound_list-sound.ensures.parts c.requires.solution }
+check-requires c = record { limits = solution_small c.args.limits c.args.problem.now c.args.answer.now c.rows-sound.ensures.parts c.requires.solution }
 
 pub unreachable-requires : goal.unreachable-requires
 unreachable-requires c =

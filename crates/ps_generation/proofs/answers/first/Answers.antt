@@ -16,7 +16,7 @@ pub returns-in-Ok-clause-answer : goal.returns-in-Ok-clause-answer
 returns-in-Ok-clause-answer c =
     let end = rw c.in-Feasible.is at c.in_ok-phase.ensures.end in
     let found = rw c.in-Ok.is at c.in_ok-model-in-Feasible.ensures.found in
-    first_reached c.args.setting.now c.args.state.now c.phase.new.state c.requires.start end.0 end.1 c.in_ok-phase.ensures.left c.in-Ok.model found
+    first_reached c.args.setting.now c.args.state.now c.phase.new.state c.requires.start end.0 end.1 c.in_ok-phase.ensures.left c.in-Ok.model c.phase.ensures.parts found
 
 pub returns-in-Err-clause-answer : goal.returns-in-Err-clause-answer
 returns-in-Err-clause-answer c =

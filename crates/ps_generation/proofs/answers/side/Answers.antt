@@ -30,7 +30,7 @@ returns-in_ok-spread-in-NoneAbove-clause-answer c =
     let new = c.phase.new.state in
     let dual = c.in_ok-spread-in-NoneAbove.field-0 in
     IfOk-weaker c.bound.result (IsBoundOf new dual) (AnswersSide c.args.kind c.args.setting.now c.args.state.now new)
-    (side_bound c.args.kind c.args.setting.now c.args.state.now new c.requires.side c.in-NoneAbove.dual end.0 end.1 c.in_ok-phase.ensures.left dual c.in_ok-spread-in-NoneAbove.ensures.spread)
+    (side_bound c.args.kind c.args.setting.now c.args.state.now new c.requires.side c.in-NoneAbove.dual end.0 end.1 c.in_ok-phase.ensures.left c.phase.ensures.parts dual c.in_ok-spread-in-NoneAbove.ensures.spread)
     c.bound.ensures.bound
 
 pub returns-in-Open-clause-answer : goal.returns-in-Open-clause-answer

@@ -8,7 +8,7 @@ returns g c =
     let v = c.in_ok-verdict.verdict in
     let first = c.in_ok-verdict.first in
     let parts = c.in_ok-parts.parts in
-    let are = c.bound_list-sound.ensures.parts in
+    let are = c.rows-sound.ensures.parts in
     let found = rw c.in_ok-trials.ensures.problem at c.in_ok-verdict.ensures in
     let each = rw c.in_ok-trials.ensures.problem at c.in_ok-parts.ensures in
     record {

@@ -8,4 +8,4 @@ pub returns-clause-known : goal.returns-clause-known
 returns-clause-known c = λ limits p q l u.
     let lower = subst (λ (o : Option SideAnswer). IfSome o (IsFoundSide p Lower q)) c.in-Some.is l in
     let upper = subst (λ (o : Option SideAnswer). IfSome o (IsFoundSide p Upper q)) c.in-Some-upper.is u in
-    c.both_found.ensures limits p q lower upper
+    c.both_found.ensures.answered limits p q lower upper

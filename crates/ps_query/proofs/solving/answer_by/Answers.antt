@@ -9,7 +9,7 @@ returns c =
     let first = c.in_ok-verdict.first in
     let found = c.in_ok-verdict.ensures.verdict limits p c.requires.new in
     record {
-      solution = solution limits p v first c.in_ok-parts.parts found c.in_ok-parts.ensures c.bound_list-sound.ensures.parts;
-      short = short limits p v first c.in_ok-parts.parts found c.in_ok-parts.ensures c.bound_list-sound.ensures.parts c.requires.limits;
-      read_back = read_back limits p v first c.in_ok-parts.parts found c.in_ok-parts.ensures c.bound_list-sound.ensures.parts c.requires.limits;
+      solution = solution limits p v first c.in_ok-parts.parts found c.in_ok-parts.ensures c.rows-sound.ensures.parts;
+      short = short limits p v first c.in_ok-parts.parts found c.in_ok-parts.ensures c.rows-sound.ensures.parts c.requires.limits;
+      read_back = read_back limits p v first c.in_ok-parts.parts found c.in_ok-parts.ensures c.rows-sound.ensures.parts c.requires.limits;
     }

@@ -5,7 +5,7 @@ pub returns : goal.returns
 returns c = record {
   kept = record {
     parts = kept.parts-kept;
-    bounds = λ ks p. kept.bounds-kept ks p.sentences;
+    rows = λ ks p. kept.rows-kept ks p.sentences;
     all = kept.parts-all;
     refuted = kept.refuted-kept;
   };

@@ -8,7 +8,7 @@ use Rattle.ps_runs.proofs.run_laws.phase_ends.Goals as goal
 pub returns : goal.returns
 returns c = record {
   models = record {
-    allowed = λ s pool basic X atoms t feasible pooled. allowed_at_end s pool basic X t atoms feasible pooled.different pooled.sized;
+    allowed = λ bounds s pool basic X atoms of t feasible pooled. allowed_at_end bounds s pool basic X of t atoms feasible pooled.different pooled.sized;
     small = small_at_end;
     total = total_by_rows;
   };

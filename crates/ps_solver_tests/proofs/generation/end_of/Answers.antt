@@ -8,4 +8,4 @@ pub run_phase-requires-clause-phase : goal.run_phase-requires-clause-phase
 run_phase-requires-clause-phase c =
     let s = c.args.setting.now.subject in
     let there : HasRunTable s c.args.state.now = search rules in
-    in_phase Nothing s c.in_ok-costs.costs c.args.state.now there (λ side. absurd (side refl)) c.in_ok-costs.ensures
+    in_phase Nothing s c.in_ok-costs.costs c.args.state.now there (λ side. absurd (side refl)) c.in_ok-costs.ensures.costs

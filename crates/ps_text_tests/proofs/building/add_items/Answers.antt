@@ -8,7 +8,7 @@ half = record {
   lowest = IsGcd-from_mod 1 2 1 (IsGcd-from_mod 2 1 1 (IsGcd-from_zero 1 0 refl));
   some = omega arith;
   small = omega arith;
-  probability = omega arith;
+  least = omega arith;
 }
 
 pub sentence-requires-clause-value : goal.sentence-requires-clause-value
@@ -16,7 +16,7 @@ sentence-requires-clause-value c = record {
   lowest = IsGcd-from_mod 1 4 1 (IsGcd-from_mod 4 1 1 (IsGcd-from_zero 1 0 refl));
   some = omega arith;
   small = omega arith;
-  probability = omega arith;
+  least = omega arith;
 }
 
 pub sentence-requires-clause-upper : goal.sentence-requires-clause-upper

@@ -55,4 +55,4 @@ returns-clause-right c =
     let accepted =
     all_accepted c.args.problem.now a c.queries_asked-queries.result.now c.as_slice-parts.result.now c.in_ok-verdict.verdict c.queries_asked-queries.ensures.queries c.as_slice-parts.ensures c.in_ok-others.others c.sum_of.result has c.in_ok-verdict.ensures
     c.in_ok-others.ensures c.sum_of.ensures.claims c.sum_of.ensures.unfinished in
-    valid-right c.args.problem.now (answer_of a) c.bound_list-sound.ensures.parts accepted.valid
+    valid-right c.args.problem.now (answer_of a) c.rows-sound.ensures.parts accepted.valid

@@ -13,5 +13,5 @@ loop-w-preserved c =
     let w = c.w-item.result in
     let small : IsAmount w.weight = rw c.w-item.is (c.requires.small.weights c.loop-w.w-index w c.loop-w-test.true) in
     let same : to_z w128 (of_z w128 w.weight) ≡ w.weight = omega (arith, ints, small.low, small.high) in
-    let more = table-more c.args.formulas.now c.args.worlds.now c.loop-w.rows.items c.loop-w.w-index w _ c.loop-w-test.true c.loop-w.invariant (rw (← c.w-item.is) same) (rw (← c.w-item.is) c.in_ok-values.ensures.truths) in
+    let more = table-more c.args.formulas.now c.args.worlds.now c.loop-w.valued.items c.loop-w.w-index w _ c.loop-w-test.true c.loop-w.invariant (rw (← c.w-item.is) same) (rw (← c.w-item.is) c.in_ok-values.ensures.truths) in
     rw c.in_ok-push.ensures.items more

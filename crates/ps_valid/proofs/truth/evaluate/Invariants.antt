@@ -1,7 +1,7 @@
 use Rattle.std.proofs.Common.{take}
 use Rattle.ps_claims.specs.Certificates.{entries}
-use Rattle.ps_valid.specs.Rows.{IsTableOf}
+use Rattle.ps_valid.specs.Valuations.{IsTableOf}
 use Rattle.ps_valid.proofs.truth.evaluate.Given as goal
 
 abbrev pub invariant-loop-w : goal.invariant-loop-w
-invariant-loop-w l = IsTableOf l.formulas (entries (take l.w-index l.worlds)) l.rows.items
+invariant-loop-w l = IsTableOf l.formulas (entries (take l.w-index l.worlds)) l.valued.items

@@ -28,9 +28,9 @@ module _ (kind : ClaimKind) (s : Subject) (pool : List World) (kinds : List Home
       ∙ costs_are kind s pool kinds asked homes
   costs_found (Err e) h w = tt
 
-pub returns : goal.returns
-returns c =
+pub returns-clause-costs : goal.returns-clause-costs
+returns-clause-costs c =
     costs_found c.args.kind c.args.self.now.subject c.args.state.now.pool c.args.state.now.table.kinds c.phase_of.result c.formulas.result.now c.both.result c.requires.asked
     c.requires.table.kinds c.phase_of.ensures
     (c.formulas.ensures.nodes ∙ ap (λ (p : Parts). p.nodes) (sym c.self.invariant.0.parts) ∙ ap (λ (r : LimitedSubject). r.subject.parts.nodes) c.self.view_is)
-    (c.both.ensures ∙ ap (λ (r : LimitedSubject). both_in r.subject.query) c.self.view_is) c.costs_for.result c.costs_for.ensures.homes c.costs_for.ensures.worlds
+    (c.both.ensures.value ∙ ap (λ (r : LimitedSubject). both_in r.subject.query) c.self.view_is) c.costs_for.result c.costs_for.ensures.homes c.costs_for.ensures.worlds

@@ -1,5 +1,5 @@
 use Rattle.std.proofs.Common.{rules, ◌≡◌, length, sym, subst}
-use Rattle.ps_problem.specs.Problems.{bounds_in}
+use Rattle.ps_problem.specs.Rows.{rows_in}
 use Rattle.ps_claims.specs.Printed.{IsPrintedDual}
 use Rattle.ps_answer.specs.declared.answer.Dual.{Dual}
 use Rattle.ps_generation.specs.Phases.{LimitedSubject, IsSpread}
@@ -18,8 +18,8 @@ returns c =
     } in
     let rows : c.in_ok-rows.rows ≡ spread_of c.self.inside.flags e.rows = search rules in
     let is : c.with_rows.result ≡ record { top = e.top; head = e.head; rows = c.in_ok-rows.rows; steps = e.steps } = c.with_rows.ensures in
-    let long : length e.rows ≡ length (bounds_in r.subject.parts.sentences) =
-    subst (λ (s : LimitedSubject). length e.rows ≡ length (bounds_in s.subject.parts.sentences)) (sym c.self.view_is) c.requires.rows in
+    let long : length e.rows ≡ length (rows_in r.subject.parts.sentences) =
+    subst (λ (s : LimitedSubject). length e.rows ≡ length (rows_in s.subject.parts.sentences)) (sym c.self.view_is) c.requires.rows in
     record {
       spread =
           subst (λ (d : Dual). IsSpread c.args.self.now e d) (sym is)

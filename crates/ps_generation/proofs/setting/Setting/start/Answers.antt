@@ -2,7 +2,7 @@ use Rattle.std.proofs.Common.{rules, ◌≡◌, List, sym, ◌∙◌, subst}
 use Rattle.ps_meaning.specs.Formula.{World}
 use Rattle.ps_table.specs.declared.home.Home.{Home}
 use Rattle.ps_table.specs.Tableau.{HasUnitHomes, HasBasicHomes, IsTableForHomes}
-use Rattle.ps_problem.specs.Problems.{bounds_in}
+use Rattle.ps_problem.specs.Rows.{rows_in}
 use Rattle.ps_runs.specs.Columns.{homes_over}
 use Rattle.ps_runs.specs.Subjects.{setting_of, frame_of}
 use Rattle.ps_runs.specs.Runs.{IsStart}
@@ -16,7 +16,7 @@ pub returns : goal.returns
 returns c =
     let s = c.args.self.now.subject in
     let t = c.in_ok-table.table in
-    let homes : c.deref.result.now ≡ homes_over (bounds_in s.parts.sentences) = search rules in
+    let homes : c.deref.result.now ≡ homes_over (rows_in s.parts.sentences) = search rules in
     let is : c.deref.result.now ≡ homes_of (setting_of s) = homes ∙ homes_are s in
     let kinds : t.kinds ≡ homes_of (setting_of s) = c.in_ok-table.ensures.kinds ∙ is in
     let units : HasUnitHomes (homes_of (setting_of s)) t = subst (λ (hs : List Home). HasUnitHomes hs t) is c.in_ok-table.ensures.cells in

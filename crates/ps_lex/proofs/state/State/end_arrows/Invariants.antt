@@ -4,6 +4,7 @@ use Rattle.ps_lex.proofs.state.State.end_arrows.Given as goal
 
 abbrev pub invariant-loop-self : goal.invariant-loop-self
 invariant-loop-self l = (l.self.part ≡ l.initial.self.part) × (l.self.query ≡ l.initial.self.query) × (l.self.given ≡ l.initial.self.given)
+    × (l.self.version ≡ l.initial.self.version) × (l.self.linear ≡ l.initial.self.linear) × (l.self.minus ≡ l.initial.self.minus)
     × (without_arrows l.self.opened ≡ without_arrows l.initial.self.opened)
 
 abbrev pub decreases-loop-self : goal.decreases-loop-self

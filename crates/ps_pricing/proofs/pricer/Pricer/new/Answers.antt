@@ -1,8 +1,9 @@
-use Rattle.std.proofs.Common.{rules, ◌≡◌, ◌∙◌, List, length, sym, ap, subst}
+use Rattle.std.proofs.Common.{rules, ◌≡◌, ◌∙◌, Bool, List, length, sym, ap, subst}
 use Rattle.ps_clause.specs.Forms.{Form}
-use Rattle.ps_problem.specs.declared.sentence.Sentence.{Sentence}
-use Rattle.ps_problem.specs.Problems.{AreParts, bounds_in}
-use Rattle.ps_runs.specs.Kept.{kept_of, with_sentences}
+use Rattle.ps_problem.specs.Problems.{AreParts}
+use Rattle.ps_problem.specs.Rows.{rows_in}
+use Rattle.ps_problem.proofs.BoundRows.{are-rows}
+use Rattle.ps_runs.specs.Kept.{kept_of, kept_parts}
 use Rattle.ps_runs.proofs.Kept.{parts-kept}
 use Rattle.ps_pricing.proofs.Wishes.{nodes-inside}
 use Rattle.ps_pricing.proofs.pricer.Pricer.new.Goals as goal
@@ -10,21 +11,18 @@ use Rattle.ps_pricing.proofs.pricer.Pricer.new.Goals as goal
 pub first_world-requires-clause-inside : goal.first_world-requires-clause-inside
 first_world-requires-clause-inside c =
     let p = c.args.problem.now in
-    let is : c.in_ok-sentences.sentences ≡ kept_of c.args.kept.now p.sentences =
-    c.in_ok-sentences.ensures ∙ ap (kept_of c.args.kept.now) (c.as_slice.ensures ∙ c.sentences.ensures.sentences) in
-    let are : AreParts (with_sentences p c.in_ok-sentences.sentences) =
-    subst (λ (ss : List Sentence). AreParts (with_sentences p ss)) (sym is) (parts-kept c.args.kept.now p c.bound_list-sound.ensures.parts) in
-    nodes-inside p.nodes (bounds_in c.in_ok-sentences.sentences) c.as_slice-3.result.now c.in_ok-form.form.variables
-    (c.as_slice-3.ensures ∙ c.in_ok-bounds.ensures ∙ ap bounds_in c.as_slice-2.ensures)
-    (ap (λ (f : Form). f.variables) c.in_ok-form.ensures ∙ ap length c.formulas.ensures.nodes) are.bounds
+    let ss = kept_of c.args.kept.now p.sentences in
+    let are : AreParts (kept_parts c.args.kept.now p) = parts-kept c.args.kept.now p c.rows-sound.ensures.parts in
+    nodes-inside p.nodes (rows_in ss) c.as_slice.result.now c.in_ok-form.form.variables (c.as_slice.ensures ∙ c.in_ok-rows.ensures)
+    (ap (λ (f : Form). f.variables) c.in_ok-form.ensures ∙ ap length c.formulas.ensures.nodes) (are-rows p.nodes ss are.bounds)
 
 pub invariant_of-result : goal.invariant_of-result
 invariant_of-result c =
     let p = c.args.problem.now in
-    let is : c.in_ok-sentences.sentences ≡ kept_of c.args.kept.now p.sentences =
-    c.in_ok-sentences.ensures ∙ ap (kept_of c.args.kept.now) (c.as_slice.ensures ∙ c.sentences.ensures.sentences) in (
+    let same : c.from_vec.result ≡ c.args.kept.now = search rules in (
       search rules,
       c.requires.conflicts,
       search rules,
-      subst (λ (ss : List Sentence). AreParts (with_sentences p ss)) (sym is) (parts-kept c.args.kept.now p c.bound_list-sound.ensures.parts),
+      search rules,
+      subst (λ (ks : List Bool). AreParts (kept_parts ks p)) (sym same) (parts-kept c.args.kept.now p c.rows-sound.ensures.parts),
     )

@@ -1,7 +1,9 @@
-use Rattle.std.proofs.Common.{rules, ◌≡◌, ℕ, Option, sym, subst}
+use Rattle.std.proofs.Common.{rules, ◌≡◌, ℕ, Option, sym, subst, arith}
 use Rattle.std.specs.Option.{IfSome}
 use Rattle.ps_runs.specs.Subjects.{given_in, both_in}
-use Rattle.ps_problem.specs.Problems.{AreParts, bounds_in}
+use Rattle.ps_problem.specs.Problems.{AreParts}
+use Rattle.ps_problem.specs.Rows.{rows_in}
+use Rattle.ps_problem.proofs.BoundRows.{are-rows, rows-length}
 use Rattle.ps_claims.specs.Rows.{AreOverNodes, IsNode}
 use Rattle.ps_claims.proofs.CombinationSums.{node-given, node-both}
 use Rattle.ps_maxsat.specs.declared.problem.Wcnf.{Wcnf}
@@ -10,12 +12,15 @@ use Rattle.ps_runs.proofs.Asked.{given_there, both_there}
 use Rattle.ps_pricing.proofs.Terms.{soft_within}
 use Rattle.ps_pricing.proofs.pricer.Pricer.wcnf.Goals as goal
 
-pub combination_of-requires-clause-bounds : goal.combination_of-requires-clause-bounds
-combination_of-requires-clause-bounds c =
+pub combination_of-requires-clause-rows : goal.combination_of-requires-clause-rows
+combination_of-requires-clause-rows c =
     let p = c.args.self.now.subject.parts in
     let are : AreParts p = search rules in
-    let same : c.bounds-bounds.result.now ≡ bounds_in p.sentences = search rules in
-    subst AreOverNodes (sym same) (record { nodes = p.nodes; few_nodes = are.few_nodes; bounds = are.bounds; few = are.few_bounds })
+    let same : c.rows-rows.result.now ≡ rows_in p.sentences = search rules in
+    let few = are.few_bounds in
+    let many = rows-length p.sentences in
+    subst AreOverNodes (sym same)
+    (record { nodes = p.nodes; few_nodes = are.few_nodes; rows = are-rows p.nodes p.sentences are.bounds; few = omega (arith, few, many) })
 
 pub combination_of-requires-clause-given : goal.combination_of-requires-clause-given
 combination_of-requires-clause-given c =

@@ -13,7 +13,7 @@ pub end_formula-requires-clause-room : goal.end_formula-requires-clause-room
 end_formula-requires-clause-room c =
     let p = pending_of c.args.self.now.formulas in
     let same : pending_of c.close.new.self ≡ reduced 1 p = c.in_ok-close.ensures.closed ∙ ungrouped p (sym c.in_ok-close.ensures.grouped ∙ c.if-branch.false) in
-    subst (λ q. HasRoom (record { pending = q; item = item_of c.args.self.now.item })) (sym same) (room_reduced 1 (work_of c.args.self.now) c.requires.room)
+    subst (λ q. HasRoom (record { pending = q; item = item_of c.args.self.now.item c.args.self.now.terms.items })) (sym same) (room_reduced 1 (work_of c.args.self.now) c.requires.room)
 
 pub query-requires-clause-formulas : goal.query-requires-clause-formulas
 query-requires-clause-formulas c =
@@ -21,7 +21,7 @@ query-requires-clause-formulas c =
     let none : is_grouped p ≡ false = sym c.in_ok-close.ensures.grouped ∙ c.if-branch.false in
     let same : pending_of c.close.new.self ≡ reduced 1 p = c.in_ok-close.ensures.closed ∙ ungrouped p none in
     let w : Work = with_pending (work_of c.args.self.now) (reduced 1 p) in
-    let ended : work_of c.end_formula.new.self ≡ formula_ended w = c.in_ok-end_formula.ensures ∙ ap (λ q. formula_ended (record { pending = q; item = item_of c.args.self.now.item })) same in
+    let ended : work_of c.end_formula.new.self ≡ formula_ended w = c.in_ok-end_formula.ensures ∙ ap (λ q. formula_ended (record { pending = q; item = item_of c.args.self.now.item c.args.self.now.terms.items })) same in
     subst (λ v. HasDraftedFormulas v) (sym ended) (ended_numbered w (c.requires.end.formula (not_waiting (reduced 1 p).operators none)) c.requires.end.given)
 
 pub query-requires-clause-room : goal.query-requires-clause-room
@@ -29,5 +29,5 @@ query-requires-clause-room c =
     let p = pending_of c.args.self.now.formulas in
     let same : pending_of c.close.new.self ≡ reduced 1 p = c.in_ok-close.ensures.closed ∙ ungrouped p (sym c.in_ok-close.ensures.grouped ∙ c.if-branch.false) in
     let w : Work = with_pending (work_of c.args.self.now) (reduced 1 p) in
-    let ended : work_of c.end_formula.new.self ≡ formula_ended w = c.in_ok-end_formula.ensures ∙ ap (λ q. formula_ended (record { pending = q; item = item_of c.args.self.now.item })) same in
+    let ended : work_of c.end_formula.new.self ≡ formula_ended w = c.in_ok-end_formula.ensures ∙ ap (λ q. formula_ended (record { pending = q; item = item_of c.args.self.now.item c.args.self.now.terms.items })) same in
     subst (λ v. length v.pending.draft.items < MOST_DRAFTED) (sym ended) (room_reduced 1 (work_of c.args.self.now) c.requires.room).items

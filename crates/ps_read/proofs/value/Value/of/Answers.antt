@@ -2,5 +2,5 @@ use Rattle.std.proofs.Common.{◌∙◌}
 use Rattle.ps_read.proofs.Values.{other_value}
 use Rattle.ps_read.proofs.value.Value.of.Goals as goal
 
-pub returns-in_default : goal.returns-in_default
-returns-in_default c = c.lowest.ensures ∙ other_value c.args.token.now c.in_default.not-Number
+pub returns-in_default-clause-value : goal.returns-in_default-clause-value
+returns-in_default-clause-value c = c.lowest.ensures.value ∙ other_value c.args.token.now c.in_default.not-Number

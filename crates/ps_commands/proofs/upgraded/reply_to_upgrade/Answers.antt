@@ -1,0 +1,12 @@
+use Rattle.ps_commands.specs.Replies.{message_output}
+use Rattle.ps_commands.proofs.DueLaws.{upgraded_due, none_upgraded_due}
+use Rattle.ps_commands.proofs.upgraded.reply_to_upgrade.Goals as goal
+
+pub returns-in_ok-upgraded_text-in-Ok-clause-due : goal.returns-in_ok-upgraded_text-in-Ok-clause-due
+returns-in_ok-upgraded_text-in-Ok-clause-due c =
+    upgraded_due c.args.bytes.now c.in-Ok.problem c.in_ok-upgraded_text-in-Ok.field-0.items c.in-Ok.ensures.found c.in_ok-upgraded_text-in-Ok.ensures
+
+pub returns-in_ok-unreadable-in-Err-At-clause-due : goal.returns-in_ok-unreadable-in-Err-At-clause-due
+returns-in_ok-unreadable-in-Err-At-clause-due c =
+    none_upgraded_due c.args.bytes.now c.in-Err-At.field-0 c.in-Err-At.kind c.in-Err-At.line c.in-Err-At.column (message_output c.in_ok-unreadable-in-Err-At.field-0)
+    c.in-Err-At.field-0-is c.in-Err-At.ensures.told (let k = c.in-Err-At.kind-is in let l = c.in-Err-At.line-is in let n = c.in-Err-At.column-is in let s = c.in_ok-unreadable-in-Err-At.ensures in rw (← k, ← l, ← n) s)
