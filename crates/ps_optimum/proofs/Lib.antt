@@ -1,0 +1,3 @@
+pub mod Logged
+pub mod Handed
+pub mod Settings

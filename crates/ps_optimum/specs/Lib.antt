@@ -1,0 +1,2 @@
+-- Meaning
+pub mod Searches
