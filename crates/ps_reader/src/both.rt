@@ -6,7 +6,7 @@ use crate::line_fault::LineFault;
 
 /// Both of two readings, or why not; that something isn't written so comes before that it is too
 /// large.
-pub(crate) fn both<A: Drop, B: Drop>(
+pub fn both<A: Drop, B: Drop>(
     first: Result<A, LineFault>,
     second: Result<B, LineFault>,
 ) -> Result<(A, B), LineFault>

@@ -24,7 +24,11 @@ mod truths;
 mod wide;
 mod words;
 
+pub use both::both;
 pub use error::LineError;
+pub use kinds::{amount, count, version};
 pub use line::read_line;
+pub use line_fault::LineFault;
 pub use ratio::fraction_of;
 pub use report::read_report;
+pub use words::Words;

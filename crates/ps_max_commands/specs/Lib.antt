@@ -1,0 +1,5 @@
+-- Meaning
+pub mod Splits
+pub mod Lines
+pub mod Due
+pub mod Replies

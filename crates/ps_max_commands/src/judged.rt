@@ -1,0 +1,44 @@
+//! The reply to clauses with an answer behind them.
+ghost use Rattle.std.specs.Prelude.{IfOk};
+ghost use Rattle.ps_max_commands.specs.Due.{DueCheckMaxSat};
+ghost use Rattle.ps_max_commands.specs.Replies.{output_of};
+
+use crate::message::Message;
+use crate::reply::Reply;
+use crate::splitting::split_answer;
+use ps_answer::ReportError;
+use ps_io::NoMemory;
+use ps_max_answer::{MaxAnswer, MaxError, check_max};
+use ps_max_text::read_max;
+use ps_wcnf::{WcnfError, WcnfText, read_wcnf};
+use std::alloc::Global;
+
+/// The reply to all bytes of a text and an answer.
+pub fn reply_to_check_maxsat(alloc: Global, bytes: &[u8]) -> Result<Reply, NoMemory>
+    ensures due { IfOk result (λ r. DueCheckMaxSat bytes.now (output_of r)) }
+{
+    let (clauses, answer) = split_answer(bytes);
+    match read_wcnf(alloc, clauses) {
+        Ok(text) => Ok(Reply::Line(judge_bytes(alloc, &text, answer)?)),
+        Err(WcnfError::At { kind, line }) => {
+            Ok(Reply::Line(Message::unreadable(alloc, kind, line)?))
+        }
+        Err(WcnfError::NoMemory) => Err(NoMemory),
+    }
+}
+
+fn judge_bytes(alloc: Global, text: &WcnfText, bytes: &[u8]) -> Result<Message, NoMemory> {
+    match read_max(alloc, bytes) {
+        Ok(answer) => judge(alloc, text, &answer),
+        Err(ReportError::At { kind, line }) => Ok(Message::refused_line(alloc, kind, line)?),
+        Err(ReportError::NoMemory) => Err(NoMemory),
+    }
+}
+
+fn judge(alloc: Global, text: &WcnfText, answer: &MaxAnswer) -> Result<Message, NoMemory> {
+    match check_max(alloc, text, answer) {
+        Ok(accepted) => Ok(Message::accepted(alloc, accepted)?),
+        Err(MaxError::NoMemory) => Err(NoMemory),
+        Err(reason) => Ok(Message::refused(alloc, reason)?),
+    }
+}

@@ -1,0 +1,5 @@
+-- Meaning
+pub mod Items
+pub mod Texts
+pub mod Parts
+pub mod Faults

@@ -1,0 +1,16 @@
+//! The text of an answer about weighted clauses: written, and read.
+#![tactic(auto)]
+
+mod item;
+mod item_reader;
+mod line;
+mod lines;
+mod part;
+mod reading;
+mod writing;
+
+pub use item::MaxItem;
+pub use part::MaxPart;
+pub use ps_answer::{LineKind, ReportError};
+pub use reading::read_max;
+pub use writing::write_max;

@@ -1,0 +1,197 @@
+//! Answers that are written.
+ghost use Rattle.std.specs.Prelude.{◌≡◌, ◌<◌, ◌++◌, [], ◌∷◌, codes, length, map, pos};
+ghost use Rattle.std.specs.List.{AllByRecursion};
+ghost use Rattle.ps_io.specs.LineText.{IsWord};
+ghost use Rattle.ps_io.specs.Lines.{text_of};
+ghost use Rattle.ps_io.specs.Wrote.{Wrote};
+ghost use Rattle.ps_log.specs.Texts.{step_line, goal_line, with_numbers};
+ghost use Rattle.ps_max_text.specs.Texts.{body_lines, log_lines, max_lines, numbered_line};
+ghost use Rattle.ps_max_text.specs.Texts.{best_lines, values_line, open_lines, IsShortLine};
+
+use ps_formula::World;
+use ps_io::{Lines, Sink, WriteFault};
+use ps_log::{write_goal, write_step};
+use ps_max_answer::MaxAnswer;
+use ps_pb::{Constraint, Step};
+use ps_report::add_world;
+
+// Writes the first line.
+fn write_head<O: Sink>(lines: &mut Lines<'_, O>) -> Result<(), WriteFault>
+    requires { text_of lines.old ≡ [] }
+    ensures { Wrote O.written O.faults lines.old lines.new result (codes "maxsat 1" ∷ []) }
+{
+    lines.word(b"maxsat");
+    lines.number(1);
+    lines.end_line()
+}
+
+// Writes a line of one word.
+fn write_word<O: Sink>(lines: &mut Lines<'_, O>, word: &[u8]) -> Result<(), WriteFault>
+    requires empty { text_of lines.old ≡ [] }
+    requires one_word { IsWord word.now }
+    requires short { length word.now < 20 }
+    ensures { Wrote O.written O.faults lines.old lines.new result (word.now ∷ []) }
+{
+    lines.word(word);
+    lines.end_line()
+}
+
+// Writes a line of a word and a number.
+fn write_numbered<O: Sink>(
+    lines: &mut Lines<'_, O>,
+    word: &[u8],
+    number: i128,
+) -> Result<(), WriteFault>
+    requires empty { text_of lines.old ≡ [] }
+    requires one_word { IsWord word.now }
+    requires short { length word.now < 20 }
+    ensures { Wrote O.written O.faults lines.old lines.new result
+        (numbered_line word.now number ∷ []) }
+{
+    lines.word(word);
+    lines.number(number);
+    lines.end_line()
+}
+
+// Writes the values of the variables.
+fn write_values<O: Sink>(lines: &mut Lines<'_, O>, values: &World) -> Result<(), WriteFault>
+    requires empty { text_of lines.old ≡ [] }
+    requires short { IsShortLine (values_line values.now) }
+    ensures { Wrote O.written O.faults lines.old lines.new result (values_line values.now ∷ []) }
+{
+    lines.word(b"v");
+    add_world(lines, values);
+    lines.end_line()
+}
+
+// Writes steps.
+fn write_steps<O: Sink>(lines: &mut Lines<'_, O>, steps: &[Step]) -> Result<(), WriteFault>
+    requires empty { text_of lines.old ≡ [] }
+    requires short { AllByRecursion IsShortLine (map step_line steps.now) }
+    ensures { Wrote O.written O.faults lines.old lines.new result (map step_line steps.now) }
+{
+    for step in steps {
+        write_step(lines, step)?;
+    }
+    Ok(())
+}
+
+// Writes how many steps there are, and each of them.
+fn write_log<O: Sink>(lines: &mut Lines<'_, O>, steps: &[Step]) -> Result<(), WriteFault>
+    requires empty { text_of lines.old ≡ [] }
+    requires short { AllByRecursion IsShortLine (log_lines steps.now) }
+    ensures { Wrote O.written O.faults lines.old lines.new result (log_lines steps.now) }
+{
+    write_numbered(lines, b"log", steps.len() as i128)?;
+    write_steps(lines, steps)
+}
+
+// Writes an optimum below its first line.
+fn write_found<O: Sink>(
+    lines: &mut Lines<'_, O>,
+    assignment: &World,
+    steps: &[Step],
+) -> Result<(), WriteFault>
+    requires empty { text_of lines.old ≡ [] }
+    requires short { AllByRecursion IsShortLine
+        (values_line assignment.now ∷ log_lines steps.now) }
+    ensures { Wrote O.written O.faults lines.old lines.new result
+        (values_line assignment.now ∷ log_lines steps.now) }
+{
+    write_values(lines, assignment)?;
+    write_log(lines, steps)
+}
+
+// Writes the first line of a search that was spent.
+fn write_open<O: Sink>(lines: &mut Lines<'_, O>, limit: u64, count: u64) -> Result<(), WriteFault>
+    requires empty { text_of lines.old ≡ [] }
+    ensures { Wrote O.written O.faults lines.old lines.new result
+        (with_numbers (codes "open conflicts") (pos limit ∷ pos count ∷ []) ∷ []) }
+{
+    lines.word(b"open");
+    lines.word(b"conflicts");
+    lines.number(limit as i128);
+    lines.number(count as i128);
+    lines.end_line()
+}
+
+// Writes the best assignment so far, or that there is none.
+fn write_best<O: Sink>(
+    lines: &mut Lines<'_, O>,
+    best: &Option<(i128, World)>,
+) -> Result<(), WriteFault>
+    requires empty { text_of lines.old ≡ [] }
+    requires short { AllByRecursion IsShortLine (best_lines best.now) }
+    ensures { Wrote O.written O.faults lines.old lines.new result (best_lines best.now) }
+{
+    match best {
+        None => {
+            lines.word(b"best");
+            lines.word(b"none");
+            lines.end_line()
+        }
+        Some((cost, assignment)) => {
+            write_numbered(lines, b"best", *cost)?;
+            write_values(lines, assignment)
+        }
+    }
+}
+
+// Writes the goal and the steps of a search that was spent, and the best assignment so far.
+fn write_spent<O: Sink>(
+    lines: &mut Lines<'_, O>,
+    goal: &Constraint,
+    steps: &[Step],
+    best: &Option<(i128, World)>,
+) -> Result<(), WriteFault>
+    requires empty { text_of lines.old ≡ [] }
+    requires short { AllByRecursion IsShortLine (open_lines goal.now steps.now best.now) }
+    ensures { Wrote O.written O.faults lines.old lines.new result
+        (open_lines goal.now steps.now best.now) }
+{
+    write_goal(lines, goal)?;
+    write_steps(lines, steps)?;
+    write_best(lines, best)
+}
+
+fn write_body<O: Sink>(answer: &MaxAnswer, lines: &mut Lines<'_, O>) -> Result<(), WriteFault>
+    requires empty { text_of lines.old ≡ [] }
+    requires short { AllByRecursion IsShortLine (body_lines answer.now) }
+    ensures { Wrote O.written O.faults lines.old lines.new result (body_lines answer.now) }
+{
+    match answer {
+        MaxAnswer::Optimum {
+            cost,
+            assignment,
+            steps,
+        } => {
+            write_numbered(lines, b"optimum", *cost)?;
+            write_found(lines, assignment, steps.as_slice())
+        }
+        MaxAnswer::Unsatisfiable { steps } => {
+            write_word(lines, b"unsatisfiable")?;
+            write_log(lines, steps.as_slice())
+        }
+        MaxAnswer::Open {
+            limit,
+            goal,
+            steps,
+            best,
+        } => {
+            write_open(lines, *limit, steps.len() as u64)?;
+            write_spent(lines, goal, steps.as_slice(), best)
+        }
+    }
+}
+
+/// Writes the text of an answer. No memory is taken. After a fault a proper prefix of the text was
+/// written.
+pub fn write_max<O: Sink>(answer: &MaxAnswer, lines: &mut Lines<'_, O>) -> Result<(), WriteFault>
+    requires empty { text_of lines.old ≡ [] }
+    requires short { AllByRecursion IsShortLine (max_lines answer.now) }
+    ensures { Wrote O.written O.faults lines.old lines.new result (max_lines answer.now) }
+{
+    write_head(lines)?;
+    write_body(answer, lines)?;
+    write_word(lines, b"end")
+}
