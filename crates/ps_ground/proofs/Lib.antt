@@ -8,5 +8,6 @@ pub mod Imaging
 pub mod Bounding
 pub mod Marking
 pub mod Counting
+pub mod Nestings
 pub mod Opening
 pub mod AtomNames

@@ -6,5 +6,6 @@ pub mod Images
 pub mod GroundParts
 pub mod Marks
 pub mod Drafting
+pub mod Spellings
 -- Laws, as the functions of laws.rt promise them
 pub mod Laws

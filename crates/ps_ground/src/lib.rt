@@ -1,13 +1,14 @@
 //! Sentences over listed constants: their ground formulas, and what these say of structures.
 #![tactic(auto)]
 
-mod counts;
 mod drafting;
 mod laws;
 mod limits;
 mod mark;
+mod mark_counts;
 mod marks;
 mod names;
+mod spelling;
 
 pub use drafting::draft_formula;
 pub use laws::{
@@ -16,5 +17,7 @@ pub use laws::{
 };
 pub use limits::{MOST_MARKS, limits_have_these_numbers};
 pub use mark::{GroundFault, GroundMark};
+pub use mark_counts::counts;
 pub use marks::ground_marks;
 pub use names::names_are_short;
+pub use spelling::{Spelling, nesting, spellings};

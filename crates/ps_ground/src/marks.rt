@@ -1,5 +1,5 @@
 //! Ground formulas as marks in postfix order.
-ghost use Rattle.std.specs.Prelude.{◌≡◌, ◌<◌, ◌≤◌, ◌++◌, [], ◌∷◌, ◌-◌, IfOk, OnOk, length, map, replicate};
+ghost use Rattle.std.specs.Prelude.{◌≡◌, ◌<◌, ◌≤◌, ◌++◌, [], ◌∷◌, ◌-◌, IfOk, OnOk, length, map, replicate, slice_index_or};
 ghost use Rattle.ps_ground.specs.declared.limits.TheConstants.{MOST_MARKS};
 ghost use Rattle.ps_problem.specs.Problems.{name_at};
 ghost use Rattle.ps_first_order.specs.FirstOrder.{constant_of};
@@ -8,10 +8,9 @@ ghost use Rattle.ps_first_order.specs.Parts.{AreParts, IsArgument, term_of, term
 ghost use Rattle.ps_ground.specs.GroundParts.{AreNumbers};
 ghost use Rattle.ps_ground.specs.GroundParts.{assignment_in, marks_of, ground_part};
 ghost use Rattle.ps_first_order.specs.Parts.{operand, formulas_in, formula_over, Fits};
-ghost use Rattle.ps_ground.specs.GroundParts.{IsGroundedPart};
+ghost use Rattle.ps_ground.specs.GroundParts.{IsGroundedPart, AreCounted};
 ghost use Rattle.ps_ground.specs.Marks.{joining_mark, joining_marks};
 
-use crate::counts::counts;
 use crate::limits::MOST_MARKS;
 use crate::mark::{GroundFault, GroundMark};
 use ps_first_order::{Argument, Connective, FirstOrderParts, Part, Quantifier, UNDERSCORE};
@@ -154,21 +153,32 @@ fn add_marks(
     }
 }
 
-/// The marks of the ground formula of a part in postfix order. With so many marks before it there
-/// are more marks than there may be exactly where the answer is `TooLarge`.
+// The count of a part.
+fn count_at(counts: &[u32], part: u32) -> u32
+    requires there { part < length counts.now }
+    ensures { result ≡ slice_index_or counts.now part result }
+{
+    counts[part as usize]
+}
+
+/// The marks of the ground formula of a part in postfix order, where the counts are those of
+/// `counts`. With so many marks before it there are more marks than there may be exactly where the
+/// answer is `TooLarge`.
 pub fn ground_marks(
     alloc: Global,
     parts: &FirstOrderParts,
+    counts: &[u32],
     root: u32,
     before: u32,
 ) -> Result<List<GroundMark>, GroundFault>
     requires sound { AreParts parts.now }
+    requires counts { AreCounted parts.now (length parts.now.parts) counts.now }
     requires there { root < length parts.now.parts }
     requires before { before ≤ MOST_MARKS }
     ensures { IsGroundedPart parts.now root before result }
 {
-    let counts = counts(alloc, parts)?;
-    if before + counts[root as usize] > MOST_MARKS as u32 {
+    let count = count_at(counts, root);
+    if before + count > MOST_MARKS as u32 {
         return Err(GroundFault::TooLarge);
     }
     let mut numbers = zeros(alloc, parts.variables.len())?;

@@ -38,8 +38,9 @@ fn count_over(constants: u32, counts: &[u32], parts: &FirstOrderParts, part: Par
     }
 }
 
-// How many marks each part's ground formula has, as far as they count.
-pub(crate) fn counts(alloc: Global, parts: &FirstOrderParts) -> Result<Vec<u32>, NoMemory>
+/// How many marks each part's ground formula has, as far as they count: one more than `MOST_MARKS`
+/// stands for more too.
+pub fn counts(alloc: Global, parts: &FirstOrderParts) -> Result<Vec<u32>, NoMemory>
     requires sound { AreParts parts.now }
     ensures { IfOk result (λ v. AreCounted parts.now (length parts.now.parts) v.items) }
 {

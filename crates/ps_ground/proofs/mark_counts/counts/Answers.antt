@@ -2,7 +2,7 @@ use Rattle.std.proofs.Common.{ap, sym, subst, ◌∙◌, ◌++◌, ◌∷◌, []
 use Rattle.ps_first_order.specs.declared.part.Part.TheVariants as part
 use Rattle.ps_ground.specs.GroundParts.{AreCounted, capped_over}
 use Rattle.ps_ground.proofs.Counting.{counted-more}
-use Rattle.ps_ground.proofs.counts.counts.Goals as goal
+use Rattle.ps_ground.proofs.mark_counts.counts.Goals as goal
 
 pub loop-part-preserved : goal.loop-part-preserved
 loop-part-preserved c =
