@@ -12,9 +12,10 @@ use Rattle.ps_valid.specs.Answers.{answer_of}
 use Rattle.ps_runs.specs.declared.limits.Limits.{Limits}
 use Rattle.ps_commands.specs.declared.command.Command.TheVariants.{Check, Solve}
 use Rattle.ps_commands.specs.declared.command.TheConstants.{MOST_PROBLEM}
-use Rattle.ps_commands.specs.declared.status.Status.{Status}
-use Rattle.ps_commands.specs.declared.status.Status.TheVariants.{Unfinished}
-use Rattle.ps_commands.specs.Due.{Output, DueFor, IsSolvedBy, accepted}
+use Rattle.ps_messages.specs.declared.status.Status.{Status}
+use Rattle.ps_messages.specs.declared.status.Status.TheVariants.{Unfinished}
+use Rattle.ps_commands.specs.Due.{DueFor, IsSolvedBy}
+use Rattle.ps_messages.specs.Lines.{Output, accepted}
 use Rattle.ps_commands.specs.RunLimits.{limits_for}
 use Rattle.ps_commands.specs.Accepting.{IsReadable}
 use Rattle.ps_commands.specs.Answering.{HasWritten, IsSolved}

@@ -10,10 +10,11 @@ use Rattle.ps_runs.specs.declared.limits.Limits.{Limits}
 use Rattle.ps_commands.specs.declared.command.Command.{Command}
 use Rattle.ps_commands.specs.declared.command.Command.TheVariants as commands
 use Rattle.ps_commands.specs.declared.command.TheConstants.{MOST_PROBLEM}
-use Rattle.ps_commands.specs.declared.status.Status.{Status}
-use Rattle.ps_commands.specs.declared.status.Status.TheVariants as status
+use Rattle.ps_messages.specs.declared.status.Status.{Status}
+use Rattle.ps_messages.specs.declared.status.Status.TheVariants as status
 use Rattle.ps_commands.specs.Commands.{Spell, words_of}
-use Rattle.ps_commands.specs.Due.{Output, DueReport, DueText, Spelled, NotRead, DueAnswered, Solved, NoProblem, DueExplained, Explains, NoneExplained, DueUpgraded, Upgraded, NoneUpgraded, DueMade, DueWithin, Within, TooLong, DueFor, Due, ForCommand, ForNone, searched}
+use Rattle.ps_commands.specs.Due.{DueReport, DueText, Spelled, NotRead, DueAnswered, Solved, NoProblem, DueExplained, Explains, NoneExplained, DueUpgraded, Upgraded, NoneUpgraded, DueMade, DueWithin, Within, TooLong, DueFor, Due, ForCommand, ForNone, searched}
+use Rattle.ps_messages.specs.Lines.{Output}
 use Rattle.ps_commands.specs.Runs.{Answered, CountsReads, CountsWrites, IsTold, IsGiven, Wrote}
 use Rattle.ps_commands.specs.Answering.{Ends, HasNotFailed, IsFaultless, IsOutOfMemory, HasWritten, IsExplained, IsSolved}
 use Rattle.ps_commands.proofs.CommandLaws.{one_command}

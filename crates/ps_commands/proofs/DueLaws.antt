@@ -29,13 +29,14 @@ use Rattle.ps_explain.specs.Explanations.{IsRightExplanation}
 use Rattle.ps_commands.specs.declared.command.Command.{Command}
 use Rattle.ps_commands.specs.declared.command.TheConstants.{MOST_PROBLEM}
 use Rattle.ps_commands.specs.declared.command.Command.TheVariants as commands
-use Rattle.ps_commands.specs.declared.status.Status.{Status}
-use Rattle.ps_commands.specs.declared.status.Status.TheVariants as status
+use Rattle.ps_messages.specs.declared.status.Status.{Status}
+use Rattle.ps_messages.specs.declared.status.Status.TheVariants as status
 use Rattle.ps_commands.specs.Commands.{Spell, SpellNone, limit_of, words_of}
 use Rattle.ps_commands.specs.Statuses.{EndsCheck, EndsMake, EndsSolve, EndsUpgrade, HasText, IsAnswerOf}
 use Rattle.ps_commands.specs.RunLimits.{limits_for}
 use Rattle.ps_commands.specs.Due as due
-use Rattle.ps_commands.specs.Due.{Output, too_long, usage, unreadable, DueAnswer, DueAnswered, NoProblem, Solved, IsSolvedBy, DueExplained, Explains, NoneExplained, explanation_of, status_explained, DueMade, DueUpgraded, NoneUpgraded, Within, TooLong, DueFor, Due, ForCommand, ForNone, report_of, status_after}
+use Rattle.ps_commands.specs.Due.{DueAnswer, DueAnswered, NoProblem, Solved, IsSolvedBy, DueExplained, Explains, NoneExplained, explanation_of, status_explained, DueMade, DueUpgraded, NoneUpgraded, Within, TooLong, DueFor, Due, ForCommand, ForNone, report_of, status_after}
+use Rattle.ps_messages.specs.Lines.{Output, too_long, usage, unreadable}
 use Rattle.ps_commands.proofs.CommandLaws.{one_command}
 use Rattle.ps_commands.specs.Runs.{CountsReads, IsTold, WasRead, Took, HasAnswered, HasTaken, HasRead, Wrote}
 use Rattle.ps_commands.specs.Replies.{AreWithin, DueBytes, IsDueFor, IsDue}

@@ -13,7 +13,8 @@ use Rattle.ps_check.specs.declared.checked.Checked.TheVariants as found
 use Rattle.ps_check.specs.Checks.{HasChecked, IsFoundIn, IsReportJudged}
 use Rattle.ps_commands.specs.declared.command.Command.TheVariants.{Check}
 use Rattle.ps_commands.specs.Due as due
-use Rattle.ps_commands.specs.Due.{Output, DueText, FaultAt, NotRead, ReadAs, Spelled, searched}
+use Rattle.ps_commands.specs.Due.{DueText, FaultAt, NotRead, ReadAs, Spelled, searched}
+use Rattle.ps_messages.specs.Lines.{Output}
 use Rattle.ps_commands.specs.Replies.{IsDueFor}
 use Rattle.ps_commands.specs.Runs.{WasRead}
 use Rattle.ps_commands.proofs.Accepted.{spelled_parts}

@@ -14,9 +14,10 @@ use Rattle.ps_runs.specs.declared.limits.Limits.{Limits}
 use Rattle.ps_commands.specs.declared.command.Command.{Command}
 use Rattle.ps_commands.specs.declared.command.Command.TheVariants as commands
 use Rattle.ps_commands.specs.declared.command.TheConstants.{MOST_PROBLEM}
-use Rattle.ps_commands.specs.declared.status.Status.TheVariants.{Done}
+use Rattle.ps_messages.specs.declared.status.Status.TheVariants.{Done}
 use Rattle.ps_commands.specs.Commands.{Spell}
-use Rattle.ps_commands.specs.Due.{Output, refused, refused_line, unreadable, DueAnswer, Accepted, RefusedFor, DueReport, ReadAs, FaultAt, DueText, Spelled, NotRead, searched, DueAnswered, Solved, NoProblem, DueExplained, Explains, NoneExplained, DueUpgraded, Upgraded, NoneUpgraded, DueWithin, Within, TooLong, DueFor, Due, ForCommand, ForNone, IsSingle}
+use Rattle.ps_commands.specs.Due.{DueAnswer, Accepted, RefusedFor, DueReport, ReadAs, FaultAt, DueText, Spelled, NotRead, searched, DueAnswered, Solved, NoProblem, DueExplained, Explains, NoneExplained, DueUpgraded, Upgraded, NoneUpgraded, DueWithin, Within, TooLong, DueFor, Due, ForCommand, ForNone, IsSingle}
+use Rattle.ps_messages.specs.Lines.{Output, refused, refused_line, unreadable}
 use Rattle.ps_commands.proofs.CommandLaws.{one_command}
 
 one_judged : (p : Parts) (a : Answer) (o o' : Output) → DueAnswer p a o → DueAnswer p a o' → o ≡ o'

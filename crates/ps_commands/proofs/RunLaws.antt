@@ -5,8 +5,8 @@ use Rattle.std.specs.Vec.Iter.{into_iter_items}
 use Rattle.std.specs.declared.alloc.Global.{Global}
 use Rattle.std.specs.declared.vec.IntoIter.{IntoIter}
 use Rattle.ps_commands.specs.Exits.{IfRan}
-use Rattle.ps_commands.specs.declared.status.Status.{Status}
-use Rattle.ps_commands.specs.declared.status.Status.TheVariants as status
+use Rattle.ps_messages.specs.declared.status.Status.{Status}
+use Rattle.ps_messages.specs.declared.status.Status.TheVariants as status
 use Rattle.ps_answer.specs.declared.answer.Answer.{Answer}
 use Rattle.ps_commands.specs.declared.made.MadeProblem.{MadeProblem}
 use Rattle.ps_commands.specs.declared.reply.Reply.{Reply}

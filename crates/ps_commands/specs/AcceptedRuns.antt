@@ -11,10 +11,11 @@ use Rattle.ps_runs.specs.declared.limits.Limits.{Limits}
 use Rattle.ps_commands.specs.declared.command.Command.{Command}
 use Rattle.ps_commands.specs.declared.command.Command.TheVariants.{Check, Solve}
 use Rattle.ps_commands.specs.declared.command.TheConstants.{MOST_PROBLEM}
-use Rattle.ps_commands.specs.declared.status.Status.{Status}
-use Rattle.ps_commands.specs.declared.status.Status.TheVariants.{Done, NoMemory, Unfinished}
+use Rattle.ps_messages.specs.declared.status.Status.{Status}
+use Rattle.ps_messages.specs.declared.status.Status.TheVariants.{Done, NoMemory, Unfinished}
 use Rattle.ps_commands.specs.Commands.{Spell, words_of}
-use Rattle.ps_commands.specs.Due.{accepted, report_of}
+use Rattle.ps_commands.specs.Due.{report_of}
+use Rattle.ps_messages.specs.Lines.{accepted}
 use Rattle.ps_commands.specs.RunLimits.{limits_for}
 use Rattle.ps_commands.specs.Answering.{Ends, IsFaultless}
 

@@ -11,10 +11,11 @@ use Rattle.ps_explain.specs.declared.explained.Explained.{Explained}
 use Rattle.ps_runs.specs.declared.limits.Limits.{Limits}
 use Rattle.ps_commands.specs.declared.command.Command.TheVariants.{Check, Explain, Make, Solve, Upgrade}
 use Rattle.ps_commands.specs.declared.command.TheConstants.{MOST_PROBLEM}
-use Rattle.ps_commands.specs.declared.status.Status.{Status}
-use Rattle.ps_commands.specs.declared.status.Status.TheVariants.{Done, NoMemory}
+use Rattle.ps_messages.specs.declared.status.Status.{Status}
+use Rattle.ps_messages.specs.declared.status.Status.TheVariants.{Done, NoMemory}
 use Rattle.ps_commands.specs.Commands.{Spell, words_of}
-use Rattle.ps_commands.specs.Due.{Output, DueMade, DueReport, IsExplainedBy, IsSolvedBy, searched}
+use Rattle.ps_commands.specs.Due.{DueMade, DueReport, IsExplainedBy, IsSolvedBy, searched}
+use Rattle.ps_messages.specs.Lines.{Output}
 use Rattle.ps_commands.specs.RunLimits.{limits_for}
 use Rattle.ps_commands.specs.Runs.{Answered, CountsReads, CountsWrites, IsGiven, Ran}
 

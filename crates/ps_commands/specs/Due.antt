@@ -29,8 +29,8 @@ use Rattle.ps_explain.specs.declared.explained.Explained.TheVariants as explaine
 use Rattle.ps_explain.specs.Explanations.{IsRightExplanation}
 use Rattle.ps_explain.specs.Texts.{explanation_lines}
 use Rattle.ps_make.specs.Chain.{made_problem, made_text}
-use Rattle.ps_commands.specs.declared.status.Status.{Status}
-use Rattle.ps_commands.specs.declared.status.Status.TheVariants.{Done, Inconsistent, Usage, Unreadable, Unfinished, Refused}
+use Rattle.ps_messages.specs.declared.status.Status.{Status}
+use Rattle.ps_messages.specs.declared.status.Status.TheVariants.{Done, Inconsistent, Usage, Unreadable, Unfinished, Refused}
 use Rattle.ps_commands.specs.declared.command.Command.{Command}
 use Rattle.ps_commands.specs.declared.command.Command.TheVariants.{Check, Explain, Make, Solve, Upgrade}
 use Rattle.ps_commands.specs.declared.checked.TheConstants.{MOST_SEARCHED}
@@ -38,41 +38,7 @@ use Rattle.ps_commands.specs.declared.command.TheConstants.{MOST_PROBLEM}
 use Rattle.ps_commands.specs.Commands.{Spell, SpellNone}
 use Rattle.ps_commands.specs.RunLimits.{enough_for, limits_for}
 use Rattle.ps_commands.specs.Summaries.{summary}
-use Rattle.ps_commands.specs.Words.{kind_words, line_words, claim_words, reason_words}
-
--- a text, and the status after it
-pub record Output : Type 0 where
-  pub text : List ℕ
-  pub status : Status
-
--- one line, and the status after it
-abbrev pub line : List ℕ → Status → Output
-line words status = record { text = words ++ codes "\n"; status = status }
-
--- so many claims are accepted, and so much is open
-abbrev pub accepted : ℕ → ℕ → Output
-accepted claims unfinished = line (codes "accepted: claims " ++ (decimal claims ++ (codes ", open " ++ decimal unfinished))) Done
-
--- a claim is refused for the first reason against it
-abbrev pub refused : Claim → Reason → Output
-refused claim reason = line (codes "refused " ++ (claim_words claim ++ (codes " " ++ reason_words reason))) Refused
-
--- a line of the report is at fault
-abbrev pub refused_line : LineKind → ℕ → Output
-refused_line kind n = line (codes "refused report line " ++ (decimal n ++ (codes " " ++ line_words kind))) Refused
-
--- no problem is read, for a kind of refusal at a line and a column
-abbrev pub unreadable : ReadKind → Position → Output
-unreadable kind at = line (codes "unreadable: "
-    ++ (kind_words kind ++ (codes " at " ++ (decimal at.line ++ (codes ":" ++ decimal at.column))))) Unreadable
-
--- no problem is read, since there are more bytes than the limit
-abbrev pub too_long : ℕ → Output
-too_long limit = line (codes "unreadable: more than " ++ decimal limit ++ codes " bytes") Unreadable
-
--- the usage line, for words that spell no command
-abbrev pub usage : Output
-usage = line (codes "usage: psat solve|explain|check|upgrade|make N [--pivots N|enough] [--conflicts N] [--bytes N]") Usage
+use Rattle.ps_messages.specs.Words.{kind_words, line_words, claim_words, reason_words}
 
 -- due for a problem and an answer to it: the answer is accepted where it is valid, and it is then right; or else its first claim
 -- that isn't valid is refused, for the first reason against it

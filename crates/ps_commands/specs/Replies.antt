@@ -16,15 +16,16 @@ use Rattle.ps_commands.specs.declared.command.Command.{Command}
 use Rattle.ps_make.specs.declared.made.TheConstants.{MOST_LINKS}
 use Rattle.ps_commands.specs.declared.command.Command.TheVariants.{Check, Explain, Make, Solve, Upgrade}
 use Rattle.ps_commands.specs.declared.made.MadeProblem.{MadeProblem}
-use Rattle.ps_commands.specs.declared.message.Message.{Message}
+use Rattle.ps_messages.specs.declared.message.Message.{Message}
 use Rattle.ps_commands.specs.declared.reply.Reply.{Reply}
 use Rattle.ps_commands.specs.declared.reply.Reply.TheVariants.{Line, Report, Explanation, Made, Upgraded}
 use Rattle.ps_commands.specs.declared.reply_error.ReplyError.{ReplyError}
 use Rattle.ps_commands.specs.declared.reply_error.ReplyError.TheVariants as errors
-use Rattle.ps_commands.specs.declared.status.Status.{Status}
-use Rattle.ps_commands.specs.declared.status.Status.TheVariants as statuses
+use Rattle.ps_messages.specs.declared.status.Status.{Status}
+use Rattle.ps_messages.specs.declared.status.Status.TheVariants as statuses
 use Rattle.ps_commands.specs.Commands.{limit_of}
-use Rattle.ps_commands.specs.Due.{Output, Due, DueAnswered, DueExplained, DueFor, DueMade, DueText, DueUpgraded}
+use Rattle.ps_commands.specs.Due.{Due, DueAnswered, DueExplained, DueFor, DueMade, DueText, DueUpgraded}
+use Rattle.ps_messages.specs.Lines.{Output}
 use Rattle.ps_commands.specs.Due.{behind_summary, comment_of, explanation_of, report_of}
 use Rattle.ps_commands.specs.Due.{status_after, status_explained, status_made}
 use Rattle.ps_commands.specs.Summaries.{summary}
@@ -34,17 +35,9 @@ use Rattle.ps_commands.specs.Runs.{IsTold, IsGiven}
 abbrev pub IsText : {E : Type 0} → Result (String Global) E → List ℕ → Type 0
 IsText result words = IfOk result (λ text. string_bytes text ≡ words)
 
--- the output of a message: its text and its status
-abbrev pub message_output : Message → Output
-message_output m = record { text = string_bytes m.text; status = m.status }
-
 -- the output is due for all bytes of which this is found
 abbrev pub IsDueWhere : Checked → Output → Type 0
 IsDueWhere found o = (bytes : List ℕ) → IsFoundIn bytes found → DueText bytes o
-
--- where there is a message, this is its output
-abbrev pub Says : {E : Type 0} → Result Message E → Output → Type 0
-Says result output = IfOk result (λ m. message_output m ≡ output)
 
 -- the report of an open answer in comments, if there is one
 abbrev pub open_report : Option Answer → List ℕ

@@ -1,12 +1,13 @@
 //! The reply to an input with a report.
 ghost use Rattle.std.specs.Prelude.{IfOk};
-ghost use Rattle.ps_commands.specs.Replies.{IsDueFor, IsDueWhere, IsShortReply, message_output, output_of};
+ghost use Rattle.ps_commands.specs.Replies.{IsDueFor, IsDueWhere, IsShortReply, output_of};
+ghost use Rattle.ps_messages.specs.Messages.{message_output};
 ghost use Rattle.ps_commands.specs.Replies.{reply_status, status_of};
 ghost use Rattle.ps_commands.specs.Runs.{CountsReads, Took};
 ghost use Rattle.ps_commands.specs.Statuses.{EndsCheck};
 
 use crate::command::Command;
-use crate::message::Message;
+use ps_messages::Message;
 use crate::reply::Reply;
 use crate::reply_error::ReplyError;
 use ps_check::{Checked, check_stream};

@@ -9,10 +9,10 @@ ghost use Rattle.ps_commands.specs.Due.{DueExplained};
 ghost use Rattle.ps_commands.specs.Replies.{IsShortReply, output_of, reply_status};
 ghost use Rattle.ps_commands.specs.Statuses.{EndsSolve};
 
-use crate::message::Message;
+use ps_messages::Message;
 use crate::reply::Reply;
 use crate::solved::limits_for;
-use crate::status::Status;
+use ps_messages::Status;
 use ps_engine::Engine;
 use ps_explain::{Explained, explain};
 use ps_io::NoMemory;

@@ -9,7 +9,7 @@ ghost use Rattle.ps_commands.specs.Replies.{reply_status, status_by_open};
 ghost use Rattle.ps_commands.specs.Statuses.{EndsMake};
 
 use crate::reply::Reply;
-use crate::status::Status;
+use ps_messages::Status;
 use crate::summary::summary_text;
 use ps_answer::Answer;
 use ps_io::NoMemory;

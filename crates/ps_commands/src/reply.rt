@@ -5,8 +5,8 @@ ghost use Rattle.ps_commands.specs.Replies.{reply_status};
 use crate::answered::status_of;
 use crate::explained::status_explained;
 use crate::made::MadeProblem;
-use crate::message::Message;
-use crate::status::Status;
+use ps_messages::Message;
+use ps_messages::Status;
 use ps_answer::Answer;
 use ps_explain::Explained;
 

@@ -1,5 +1,5 @@
 //! Why there is no reply.
-use crate::status::Status;
+use ps_messages::Status;
 use ps_io::NoMemory;
 use std::alloc::AllocError;
 

@@ -8,7 +8,7 @@ ghost use Rattle.ps_commands.specs.Replies.{IsShortReply, output_of, reply_statu
 ghost use Rattle.ps_commands.specs.RunLimits as run;
 ghost use Rattle.ps_commands.specs.Statuses.{EndsSolve};
 
-use crate::message::Message;
+use ps_messages::Message;
 use crate::reply::Reply;
 use ps_answer::MOST_PIVOTS;
 use ps_io::NoMemory;

@@ -5,7 +5,8 @@ use Rattle.ps_max_answer.specs.Answers.{fault_of}
 use Rattle.ps_max_answer.specs.Optima.{IsFoundAnswer}
 use Rattle.ps_max_answer.specs.declared.answer.MaxAnswer.{MaxAnswer}
 use Rattle.ps_max_answer.specs.declared.max_error.MaxError.{MaxError}
-use Rattle.ps_max_commands.specs.Lines.{Output, status_of, unreadable, refused_line, refused, accepted}
+use Rattle.ps_messages.specs.Lines.{Output, unreadable_clauses, refused_line, refused_maxsat}
+use Rattle.ps_max_commands.specs.Lines.{status_of, accepted_line}
 use Rattle.ps_max_commands.specs.Splits.{clauses_of_input, answer_of_input}
 use Rattle.ps_max_text.specs.Faults.{IsFirstFault}
 use Rattle.ps_max_text.specs.Texts.{max_text, IsMaxWithin}
@@ -20,6 +21,7 @@ pub record IsAnswered (conflicts : ℕ) (bytes : List ℕ) (o : Output) : Type 0
   pub read : IsRead (lines_of bytes) text
   pub answer : MaxAnswer
   pub found : IsFoundAnswer text conflicts answer
+  pub within : IsMaxWithin answer
   pub written : o.text ≡ max_text answer
   pub status : o.status ≡ status_of answer
 
@@ -28,7 +30,7 @@ pub record IsUnread (bytes : List ℕ) (o : Output) : Type 0 where
   pub kind : WcnfKind
   pub line : ℕ
   pub fault : IsFirstAtFault (lines_of bytes) kind line
-  pub is : o ≡ unreadable kind line
+  pub is : o ≡ unreadable_clauses kind line
 
 -- what is due where an optimum is asked
 abbrev pub DueMaxSat : ℕ → List ℕ → Output → Type 0
@@ -39,8 +41,8 @@ pub record IsJudged (t : WcnfText) (bytes : List ℕ) (o : Output) : Type 0 wher
   pub answer : MaxAnswer
   pub is_text : bytes ≡ max_text answer
   pub within : IsMaxWithin answer
-  pub accepted_is : fault_of t answer ≡ None → o ≡ accepted answer
-  pub refused_is : (e : MaxError) → fault_of t answer ≡ Some e → o ≡ refused e
+  pub accepted_is : fault_of t answer ≡ None → o ≡ accepted_line answer
+  pub refused_is : (e : MaxError) → fault_of t answer ≡ Some e → o ≡ refused_maxsat e
 
 -- a line of the answer is the first at fault, and what is written names it
 pub record IsRefusedLine (bytes : List ℕ) (o : Output) : Type 0 where

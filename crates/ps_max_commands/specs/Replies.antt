@@ -1,16 +1,18 @@
 -- What a reply writes.
-use Rattle.std.specs.Prelude.{string_bytes}
-use Rattle.ps_max_text.specs.Texts.{max_text}
-use Rattle.ps_max_commands.specs.Lines.{Output, status_of}
-use Rattle.ps_max_commands.specs.declared.message.Message.{Message}
-use Rattle.ps_max_commands.specs.declared.reply.Reply.{Reply}
-use Rattle.ps_max_commands.specs.declared.reply.Reply.TheVariants.{Line, Answer}
-
--- what a message writes
-abbrev pub message_output : Message → Output
-message_output m = record { text = string_bytes m.text; status = m.status }
+use Rattle.std.specs.List.{AllByRecursion}
+use Rattle.ps_max_text.specs.Texts.{IsShortLine, max_lines, max_text}
+use Rattle.ps_messages.specs.Lines.{Output}
+use Rattle.ps_messages.specs.Messages.{message_output}
+use Rattle.ps_max_commands.specs.Lines.{status_of}
+use Rattle.ps_max_commands.specs.declared.reply.MaxReply.{MaxReply}
+use Rattle.ps_max_commands.specs.declared.reply.MaxReply.TheVariants.{Line, Answer}
 
 -- what a reply writes, and the status after it
-abbrev pub output_of : Reply → Output
+abbrev pub output_of : MaxReply → Output
 output_of (Line message) = message_output message
 output_of (Answer answer) = record { text = max_text answer; status = status_of answer }
+
+-- each line of an answer is short enough to be written
+abbrev pub IsShortReply : MaxReply → Type 0
+IsShortReply (Line message) = Unit {0}
+IsShortReply (Answer answer) = AllByRecursion IsShortLine (max_lines answer)

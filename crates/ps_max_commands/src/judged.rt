@@ -1,27 +1,30 @@
 //! The reply to clauses with an answer behind them.
 ghost use Rattle.std.specs.Prelude.{IfOk};
 ghost use Rattle.ps_max_commands.specs.Due.{DueCheckMaxSat};
-ghost use Rattle.ps_max_commands.specs.Replies.{output_of};
+ghost use Rattle.ps_max_commands.specs.Replies.{IsShortReply, output_of};
+ghost use Rattle.ps_max_commands.specs.Ends.{EndsCheckMaxSat};
 
-use crate::message::Message;
-use crate::reply::Reply;
+use crate::reply::MaxReply;
 use crate::splitting::split_answer;
 use ps_answer::ReportError;
 use ps_io::NoMemory;
 use ps_max_answer::{MaxAnswer, MaxError, check_max};
 use ps_max_text::read_max;
+use ps_messages::Message;
 use ps_wcnf::{WcnfError, WcnfText, read_wcnf};
 use std::alloc::Global;
 
 /// The reply to all bytes of a text and an answer.
-pub fn reply_to_check_maxsat(alloc: Global, bytes: &[u8]) -> Result<Reply, NoMemory>
+pub fn reply_to_check_maxsat(alloc: Global, bytes: &[u8]) -> Result<MaxReply, NoMemory>
     ensures due { IfOk result (λ r. DueCheckMaxSat bytes.now (output_of r)) }
+    ensures status { IfOk result (λ r. EndsCheckMaxSat (output_of r).status) }
+    ensures short { IfOk result IsShortReply }
 {
     let (clauses, answer) = split_answer(bytes);
     match read_wcnf(alloc, clauses) {
-        Ok(text) => Ok(Reply::Line(judge_bytes(alloc, &text, answer)?)),
+        Ok(text) => Ok(MaxReply::Line(judge_bytes(alloc, &text, answer)?)),
         Err(WcnfError::At { kind, line }) => {
-            Ok(Reply::Line(Message::unreadable(alloc, kind, line)?))
+            Ok(MaxReply::Line(Message::unreadable_clauses(alloc, kind, line)?))
         }
         Err(WcnfError::NoMemory) => Err(NoMemory),
     }
@@ -37,8 +40,8 @@ fn judge_bytes(alloc: Global, text: &WcnfText, bytes: &[u8]) -> Result<Message, 
 
 fn judge(alloc: Global, text: &WcnfText, answer: &MaxAnswer) -> Result<Message, NoMemory> {
     match check_max(alloc, text, answer) {
-        Ok(accepted) => Ok(Message::accepted(alloc, accepted)?),
+        Ok(accepted) => Ok(Message::accepted_answer(alloc, accepted)?),
         Err(MaxError::NoMemory) => Err(NoMemory),
-        Err(reason) => Ok(Message::refused(alloc, reason)?),
+        Err(reason) => Ok(Message::refused_maxsat(alloc, reason)?),
     }
 }

@@ -3,13 +3,11 @@
 
 mod asked;
 mod judged;
-mod message;
 mod reply;
 mod splitting;
-mod status;
+mod writing;
 
 pub use asked::reply_to_maxsat;
 pub use judged::reply_to_check_maxsat;
-pub use message::Message;
-pub use reply::Reply;
-pub use status::MaxStatus;
+pub use reply::MaxReply;
+pub use writing::write_max_reply;

@@ -2,29 +2,28 @@
 ghost use Rattle.std.specs.Prelude.{◌≡◌};
 ghost use Rattle.ps_max_commands.specs.Replies.{output_of};
 
-use crate::message::Message;
-use crate::status::MaxStatus;
 use ps_max_answer::MaxAnswer;
+use ps_messages::{Message, Status};
 
 /// What is to be written.
 #[derive(Drop)]
-pub enum Reply {
+pub enum MaxReply {
     /// One line.
     Line(Message),
     /// The text of an answer.
     Answer(MaxAnswer),
 }
 
-impl Reply {
+impl MaxReply {
     /// The status after it.
-    pub fn status(&self) -> MaxStatus
+    pub fn status(&self) -> Status
         ensures { result ≡ (output_of self.now).status }
     {
         match self {
-            Reply::Line(message) => message.status,
-            Reply::Answer(MaxAnswer::Optimum { .. }) => MaxStatus::Done,
-            Reply::Answer(MaxAnswer::Unsatisfiable { .. }) => MaxStatus::Inconsistent,
-            Reply::Answer(MaxAnswer::Open { .. }) => MaxStatus::Unfinished,
+            MaxReply::Line(message) => message.status,
+            MaxReply::Answer(MaxAnswer::Optimum { .. }) => Status::Done,
+            MaxReply::Answer(MaxAnswer::Unsatisfiable { .. }) => Status::Inconsistent,
+            MaxReply::Answer(MaxAnswer::Open { .. }) => Status::Unfinished,
         }
     }
 }

@@ -1,14 +1,16 @@
 //! A text to be written.
 ghost use Rattle.std.specs.Prelude.{string_bytes};
-ghost use Rattle.ps_commands.specs.Due.{accepted, line, refused, refused_line};
-ghost use Rattle.ps_commands.specs.Due.{too_long, unreadable, usage};
-ghost use Rattle.ps_commands.specs.Replies.{Says};
+ghost use Rattle.ps_messages.specs.Lines.{accepted, line, refused, refused_line, refused_maxsat};
+ghost use Rattle.ps_messages.specs.Lines.{too_long, unreadable, unreadable_clauses, usage};
+ghost use Rattle.ps_messages.specs.Messages.{Says};
 
-use crate::shown::{claim_text, kind_text, line_text, reason_text};
+use crate::shown::{claim_text, kind_text, line_text, max_reason_text, reason_text, wcnf_text};
 use crate::status::Status;
 use ps_answer::LineKind;
-use ps_read::ReadKind;
+use ps_max_answer::MaxError;
+use ps_text::ReadKind;
 use ps_valid::{Accepted, Refusal};
+use ps_wcnf::WcnfKind;
 use std::alloc::{AllocError, Global};
 
 /// A text that is to be written, and the status after it.
@@ -35,8 +37,8 @@ impl Message {
     {
         let text = String::from_str(
             alloc,
-            "usage: psat solve|explain|check|upgrade|make N [--pivots N|enough] \
-             [--conflicts N] [--bytes N]",
+            "usage: psat solve|explain|check|upgrade|maxsat|check-maxsat|make N \
+             [--pivots N|enough] [--conflicts N] [--bytes N]",
         )?;
         Message::line(text, Status::Usage)
     }
@@ -90,5 +92,27 @@ impl Message {
         let unfinished = answer.unfinished;
         let text = format!(in alloc; "accepted: claims {claims}, open {unfinished}")?;
         Message::line(text, Status::Done)
+    }
+
+    /// The message for weighted clauses with a line at fault.
+    pub fn unreadable_clauses(
+        alloc: Global,
+        kind: WcnfKind,
+        line: u64,
+    ) -> Result<Message, AllocError>
+        ensures { Says result (unreadable_clauses kind line) }
+    {
+        let kind = wcnf_text(kind);
+        let text = format!(in alloc; "unreadable: {kind} at {line}")?;
+        Message::line(text, Status::Unreadable)
+    }
+
+    /// The message for an answer about weighted clauses that isn't accepted.
+    pub fn refused_maxsat(alloc: Global, reason: MaxError) -> Result<Message, AllocError>
+        ensures { Says result (refused_maxsat reason) }
+    {
+        let reason = max_reason_text(alloc, reason)?;
+        let text = format!(in alloc; "refused maxsat {reason}")?;
+        Message::line(text, Status::Refused)
     }
 }

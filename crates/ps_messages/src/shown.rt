@@ -1,13 +1,16 @@
 //! How a refusal is shown.
 ghost use Rattle.std.specs.Prelude.{◌≡◌, IfOk, string_bytes};
 ghost use Rattle.ps_claims.specs.declared.reason.Reason.TheVariants as reasons;
-ghost use Rattle.ps_commands.specs.Words.{claim_words, kind_words, line_words, reason_words};
-ghost use Rattle.ps_commands.specs.Words.{what_words, why_words};
+ghost use Rattle.ps_max_answer.specs.declared.max_error.MaxError.TheVariants as max_reasons;
+ghost use Rattle.ps_messages.specs.Words.{claim_words, kind_words, line_words, reason_words};
+ghost use Rattle.ps_messages.specs.Words.{max_reason_words, wcnf_words, what_words, why_words};
 
 use ps_answer::LineKind;
+use ps_max_answer::MaxError;
 use ps_pb::StepRefused;
-use ps_read::{ReadKind, What};
+use ps_text::{ReadKind, What};
 use ps_valid::{Claim, Reason};
+use ps_wcnf::WcnfKind;
 use std::alloc::{AllocError, Global};
 
 // What is expected at a place of a problem text.
@@ -134,5 +137,41 @@ pub fn reason_text(alloc: Global, reason: Reason) -> Result<String, AllocError>
         Reason::MultiplierSign { bound } => format!(in alloc; "multiplier-sign {bound}"),
         Reason::StepRefused { step, why } => step_text(alloc, step, why),
         Reason::NotRefuted => String::from_str(alloc, "not-refuted"),
+    }
+}
+
+/// What is wrong with a line of weighted clauses.
+#[tactic(auto, unfolding(crate::specs::Words::wcnf_words))]
+pub fn wcnf_text(kind: WcnfKind) -> &'static str
+    ensures { result.now ≡ wcnf_words kind }
+{
+    match kind {
+        WcnfKind::BadLine => "bad line",
+        WcnfKind::TooLarge => "too large",
+    }
+}
+
+// Which step of an answer about weighted clauses isn't lawful, and why.
+#[tactic(auto, unfolding(crate::specs::Words::max_reason_words))]
+fn max_step_text(alloc: Global, step: u64, why: StepRefused) -> Result<String, AllocError>
+    ensures { IfOk result
+        (λ text. string_bytes text ≡ max_reason_words (max_reasons.StepRefused step why)) }
+{
+    let why = why_text(alloc, why)?;
+    format!(in alloc; "step {step} {why}")
+}
+
+/// What is wrong with an answer about weighted clauses.
+#[tactic(auto, unfolding(crate::specs::Words::max_reason_words))]
+pub fn max_reason_text(alloc: Global, reason: MaxError) -> Result<String, AllocError>
+    ensures { IfOk result (λ text. string_bytes text ≡ max_reason_words reason) }
+{
+    match reason {
+        MaxError::WrongShape => String::from_str(alloc, "wrong-shape"),
+        MaxError::HardMissed { clause } => format!(in alloc; "hard-missed {clause}"),
+        MaxError::CostWrong => String::from_str(alloc, "cost-wrong"),
+        MaxError::StepRefused { step, why } => max_step_text(alloc, step, why),
+        MaxError::NotRefuted => String::from_str(alloc, "not-refuted"),
+        MaxError::NoMemory => Ok(String::new(alloc)),
     }
 }

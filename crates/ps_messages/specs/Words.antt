@@ -12,6 +12,10 @@ use Rattle.ps_claims.specs.declared.claim.Claim.{Claim}
 use Rattle.ps_claims.specs.declared.claim.Claim.TheVariants as claim
 use Rattle.ps_claims.specs.declared.reason.Reason.{Reason}
 use Rattle.ps_claims.specs.declared.reason.Reason.TheVariants as reason
+use Rattle.ps_max_answer.specs.declared.max_error.MaxError.{MaxError}
+use Rattle.ps_max_answer.specs.declared.max_error.MaxError.TheVariants as max
+use Rattle.ps_wcnf.specs.declared.wcnf_error.WcnfKind.{WcnfKind}
+use Rattle.ps_wcnf.specs.declared.wcnf_error.WcnfKind.TheVariants as wcnf
 
 -- what is expected at a place of a problem text
 unfoldable pub what_words : What → List ℕ
@@ -90,3 +94,17 @@ reason_words reason.HeadWrong = codes "head-wrong"
 reason_words (reason.MultiplierSign n) = codes "multiplier-sign " ++ decimal n
 reason_words (reason.StepRefused id why) = codes "step " ++ (decimal id ++ (codes " " ++ why_words why))
 reason_words reason.NotRefuted = codes "not-refuted"
+
+-- what is wrong with a line of weighted clauses
+unfoldable pub wcnf_words : WcnfKind → List ℕ
+wcnf_words wcnf.BadLine = codes "bad line"
+wcnf_words wcnf.TooLarge = codes "too large"
+
+-- what is wrong with an answer about weighted clauses; want of memory is no reason against it, and is never shown
+unfoldable pub max_reason_words : MaxError → List ℕ
+max_reason_words max.WrongShape = codes "wrong-shape"
+max_reason_words (max.HardMissed n) = codes "hard-missed " ++ decimal n
+max_reason_words max.CostWrong = codes "cost-wrong"
+max_reason_words (max.StepRefused id why) = codes "step " ++ (decimal id ++ (codes " " ++ why_words why))
+max_reason_words max.NotRefuted = codes "not-refuted"
+max_reason_words max.NoMemory = []
