@@ -37,6 +37,8 @@ told (commands.Solve limits enough) left bytes e = e
 told (commands.Explain limits enough) left bytes e = e
 told (commands.Make n limits) left bytes e = tt
 told commands.Upgrade left bytes e = e
+told (commands.MaxSat n) left bytes e = e
+told (commands.CheckMaxSat n) left bytes e = e
 
 -- what is due for words is due for the command that they spell
 due_for : (words : List (List ℕ)) (c : Command) (bytes : List ℕ) (o : Output) → Spell words c → Due words bytes o → DueFor c bytes o

@@ -1,7 +1,8 @@
--- The numbers of statuses, and which of them go with a text.
-use Rattle.std.specs.Prelude.{ℕ, ◌⊎◌}
+-- Which statuses go with a text, and with which command.
+use Rattle.std.specs.Prelude.{◌⊎◌}
+use Rattle.ps_max_commands.specs.Ends.{EndsMaxSat, EndsCheckMaxSat}
 use Rattle.ps_commands.specs.declared.command.Command.{Command}
-use Rattle.ps_commands.specs.declared.command.Command.TheVariants.{Check, Explain, Make, Solve, Upgrade}
+use Rattle.ps_commands.specs.declared.command.Command.TheVariants.{Check, CheckMaxSat, Explain, Make, MaxSat, Solve, Upgrade}
 use Rattle.ps_messages.specs.declared.status.Status.{Status}
 use Rattle.ps_messages.specs.declared.status.Status.TheVariants.{Done, Inconsistent, Usage, Unreadable, Unfinished}
 use Rattle.ps_messages.specs.declared.status.Status.TheVariants.{ReadFault, WriteFault, NoMemory, Refused}
@@ -40,6 +41,8 @@ IsAnswerOf (Solve limits enough) status = EndsSolve status
 IsAnswerOf (Explain limits enough) status = EndsSolve status
 IsAnswerOf (Make n limits) status = EndsMake status
 IsAnswerOf Upgrade status = EndsUpgrade status
+IsAnswerOf (MaxSat conflicts) status = EndsMaxSat status
+IsAnswerOf (CheckMaxSat limit) status = EndsCheckMaxSat status
 
 -- a status that goes with a text
 abbrev pub HasText : Status → Type 0

@@ -9,6 +9,7 @@ use ps_messages::Message;
 use ps_messages::Status;
 use ps_answer::Answer;
 use ps_explain::Explained;
+use ps_max_commands::MaxReply;
 
 /// What is to be written.
 #[derive(Drop)]
@@ -23,6 +24,8 @@ pub enum Reply {
     Made(MadeProblem),
     /// The text of a problem.
     Upgraded(Vec<u8>),
+    /// What is answered of weighted clauses.
+    Weighted(MaxReply),
 }
 
 impl Reply {
@@ -36,6 +39,7 @@ impl Reply {
             Reply::Explanation(explained) => status_explained(explained),
             Reply::Made(made) => made.status(),
             Reply::Upgraded(_) => Status::Done,
+            Reply::Weighted(reply) => reply.status(),
         }
     }
 }

@@ -18,6 +18,7 @@ use ps_messages::Status;
 use crate::upgraded::reply_to_upgrade;
 use crate::writing::write_reply;
 use ps_io::{NoMemory, ReadAllError, Sink, Source, read_all};
+use ps_max_commands::{reply_to_check_maxsat, reply_to_maxsat};
 use std::alloc::Global;
 
 // The reply to bytes that are within the limit of a command; one that reads nothing takes any.
@@ -36,6 +37,10 @@ fn reply_to_bytes(alloc: Global, command: Command, bytes: &[u8]) -> Result<Reply
         Command::Check { .. } => unreachable!(),
         Command::Make { links, limits } => reply_to_make(alloc, links, limits),
         Command::Upgrade => reply_to_upgrade(alloc, bytes),
+        Command::MaxSat { conflicts } => {
+            Ok(Reply::Weighted(reply_to_maxsat(alloc, bytes, conflicts)?))
+        }
+        Command::CheckMaxSat { .. } => Ok(Reply::Weighted(reply_to_check_maxsat(alloc, bytes)?)),
     }
 }
 
@@ -79,9 +84,11 @@ fn reply_to_command<I: Source>(
     ensures faults { CountsReads (I.faults source.old) (I.faults source.new) (status_of result) }
 {
     match command {
-        Command::Solve { .. } | Command::Explain { .. } | Command::Upgrade => {
-            reply_to_input(alloc, command, MOST_PROBLEM, source)
-        }
+        Command::Solve { .. }
+        | Command::Explain { .. }
+        | Command::Upgrade
+        | Command::MaxSat { .. } => reply_to_input(alloc, command, MOST_PROBLEM, source),
+        Command::CheckMaxSat { bytes } => reply_to_input(alloc, command, bytes, source),
         Command::Check { bytes } => reply_to_check(alloc, bytes, source),
         Command::Make { .. } => Ok(reply_to_bytes(alloc, command, &[])?),
     }
