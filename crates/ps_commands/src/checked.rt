@@ -7,11 +7,11 @@ ghost use Rattle.ps_commands.specs.Runs.{CountsReads, Took};
 ghost use Rattle.ps_commands.specs.Statuses.{EndsCheck};
 
 use crate::command::Command;
-use ps_messages::Message;
 use crate::reply::Reply;
 use crate::reply_error::ReplyError;
 use ps_check::{Checked, check_stream};
 use ps_io::{NoMemory, ReadAllError, Source};
+use ps_messages::Message;
 use std::alloc::Global;
 
 /// The most bytes in which a problem is looked for: one fewer than a line or a column can number.

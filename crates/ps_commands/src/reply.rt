@@ -5,11 +5,10 @@ ghost use Rattle.ps_commands.specs.Replies.{reply_status};
 use crate::answered::status_of;
 use crate::explained::status_explained;
 use crate::made::MadeProblem;
-use ps_messages::Message;
-use ps_messages::Status;
 use ps_answer::Answer;
 use ps_explain::Explained;
 use ps_max_commands::MaxReply;
+use ps_messages::{Message, Status};
 
 /// What is to be written.
 #[derive(Drop)]

@@ -10,15 +10,14 @@ use crate::checked::reply_to_check;
 use crate::command::{Command, MOST_PROBLEM, parse_words};
 use crate::explained::reply_to_explain;
 use crate::made::reply_to_make;
-use ps_messages::Message;
 use crate::reply::Reply;
 use crate::reply_error::ReplyError;
 use crate::solved::reply_to_solve;
-use ps_messages::Status;
 use crate::upgraded::reply_to_upgrade;
 use crate::writing::write_reply;
 use ps_io::{NoMemory, ReadAllError, Sink, Source, read_all};
 use ps_max_commands::{reply_to_check_maxsat, reply_to_maxsat};
+use ps_messages::{Message, Status};
 use std::alloc::Global;
 
 // The reply to bytes that are within the limit of a command; one that reads nothing takes any.
