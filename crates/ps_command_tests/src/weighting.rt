@@ -8,7 +8,7 @@ const MAXSAT: &[&str] = &["maxsat"];
 
 const CHECK: &[&str] = &["check-maxsat"];
 
-// Clauses with one answer, worked out by hand: each refutation is one step, whose hints are all of the clauses.
+// Clauses with one answer, worked out by hand.
 const ANSWERED: [(&str, &str, Status); 2] = [
     (
         "",
