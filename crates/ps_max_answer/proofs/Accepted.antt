@@ -1,9 +1,10 @@
 -- Answers that a search for an optimum may give.
-use Rattle.std.proofs.Common.{◌≡◌, ℕ, suc, ◌==◌, ℤ, pos, ◌+ℤ◌, ◌&&◌, Bool, true, Option, Some, None, List, [], ◌∷◌, length, refl, sym, ap, ◌∙◌}
+use Rattle.std.proofs.Common.{◌≡◌, ℕ, suc, ◌==◌, ℤ, pos, ◌+ℤ◌, Bool, true, false, None, List, [], ◌∷◌, refl}
 use Rattle.std.specs.List.{list_all}
 use Rattle.std.specs.Ordering.{int_eq}
+use Rattle.std.proofs.lemmas.Bool.{eq-eqb}
 use Rattle.std.proofs.lemmas.Bool.Decides.{Decides-int_eq}
-use Rattle.ps_pb.specs.Steps.{Step, first_refusal, ends_in_contradiction}
+use Rattle.ps_pb.specs.Steps.{Step}
 use Rattle.ps_pb.proofs.Onward.{lawful-none}
 use Rattle.ps_clause.specs.Clauses.{Clause, meets}
 use Rattle.ps_clause.specs.Forms.{first_known}
@@ -11,13 +12,13 @@ use Rattle.ps_clause.proofs.Tidy.{by_bool}
 use Rattle.ps_wcnf.specs.Costs.{cost, gain, IsAllowed}
 use Rattle.ps_wcnf.specs.Valued.{form_of, goal_of}
 use Rattle.ps_wcnf.specs.declared.text.WcnfText.{WcnfText}
-use Rattle.ps_max_answer.specs.Answers.{first_missed, missed_or, assignment_fault, run_fault, steps_fault, fault_of}
+use Rattle.ps_max_answer.specs.Answers.{first_missed, assignment_fault, steps_fault, fault_of}
 use Rattle.ps_max_answer.specs.Optima.{RefutesValue, IsFoundAnswer}
 use Rattle.ps_max_answer.specs.declared.answer.MaxAnswer.{MaxAnswer}
 use Rattle.ps_max_answer.specs.declared.answer.MaxAnswer.TheVariants.{Optimum, Unsatisfiable, Open}
 
 same-number : (n : ℕ) → (n == n) ≡ true
-same-number n = grind arith
+same-number n = eq-eqb n n refl
 
 same-int : (z : ℤ) → int_eq z z ≡ true
 same-int z = (Decides-int_eq z z).1 refl
@@ -26,7 +27,7 @@ all-met : (w : List Bool) (n : ℕ) (cs : List Clause) → list_all (meets w) cs
 all-met w n [] h = refl
 all-met w n (c ∷ cs) h = by_bool (meets w c)
     (λ t. rw t (all-met w (suc n) cs (rw t at h)))
-    (λ f. absurd (grind (f, h)))
+    (λ f. let no : false ≡ true = rw f at h in cc)
 
 run-none : (t : WcnfText) (least : ℤ) (steps : List Step) → RefutesValue t least steps → steps_fault t least steps ≡ None
 run-none t least steps h =

@@ -1,5 +1,5 @@
 -- The run of an answer's steps.
-use Rattle.std.proofs.Common.{◌≡◌, ℕ, ℤ, ◌-ℤ◌, Bool, true, false, Option, Some, None, List, refl, sym, ap}
+use Rattle.std.proofs.Common.{◌≡◌, ℕ, ℤ, ◌-ℤ◌, Bool, true, false, Option, Some, None, List, refl, ap}
 use Rattle.ps_pb.specs.Constraints.{Constraint}
 use Rattle.ps_pb.specs.Steps.{Step, first_refusal}
 use Rattle.ps_pb.specs.declared.refused.StepRefused.{StepRefused as Why}
