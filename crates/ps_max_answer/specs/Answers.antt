@@ -33,7 +33,8 @@ missed_or None later = later
 -- the first reason against an assignment and its cost
 abbrev pub assignment_fault : WcnfText → ℤ → List Bool → Option MaxError
 assignment_fault t c w =
-    if length w == t.variables then missed_or (first_missed w 1 t.hard) (if int_eq c (cost w t.soft) then None else Some CostWrong)
+    if length w == t.variables
+    then missed_or (first_missed w 1 t.hard) (if int_eq c (cost w t.soft) then None else Some CostWrong)
     else Some WrongShape
 
 -- the reason against steps, by the first that is refused, or else by whether the last is a contradiction
@@ -45,7 +46,8 @@ run_fault None false = Some NotRefuted
 -- the first reason against steps that are to refute the goal of a value of at least so much
 abbrev pub steps_fault : WcnfText → ℤ → List Step → Option MaxError
 steps_fault t least steps =
-    run_fault (first_refusal (form_of t).variables (first_known (form_of t) (goal_of t least)) steps) (ends_in_contradiction steps)
+    run_fault (first_refusal (form_of t).variables (first_known (form_of t) (goal_of t least)) steps)
+    (ends_in_contradiction steps)
 
 -- a reason, or else what comes later
 abbrev pub fault_or : Option MaxError → Option MaxError → Option MaxError

@@ -22,10 +22,17 @@ const SINGLE: [(&str, i128, &[bool]); 7] = [
 const SEVERAL: [(&str, i128); 3] = [
     ("3 1 -1 0\n", 0),
     ("1 1 2 0\n1 -1 0\n1 -2 0\nh -1 -2 0\n", 1),
-    ("4611686018427387904 1 0\n4611686018427387904 -1 0\n", 1 << 62),
+    (
+        "4611686018427387904 1 0\n4611686018427387904 -1 0\n",
+        1 << 62,
+    ),
 ];
 
-const UNSATISFIABLE: [&str; 3] = ["h 0\n", "h 1 0\nh -1 0\n", "h 1 2 0\nh 1 -2 0\nh -1 0\n7 2 0\n"];
+const UNSATISFIABLE: [&str; 3] = [
+    "h 0\n",
+    "h 1 0\nh -1 0\n",
+    "h 1 2 0\nh 1 -2 0\nh -1 0\n7 2 0\n",
+];
 
 // Each assignment misses one of the clauses, which hints alone don't show.
 const ALL_FOUR: &str = "h 1 2 0\nh 1 -2 0\nh -1 2 0\nh -1 -2 0\n";
@@ -40,9 +47,13 @@ fn accepted_answer(alloc: Global, input: &str, conflicts: u64) -> Option<MaxAnsw
 
 fn is_single(alloc: Global, input: &str, least: i128, values: &[bool]) -> bool {
     match accepted_answer(alloc, input, CONFLICTS) {
-        Some(MaxAnswer::Optimum {
-            cost, assignment, ..
-        }) => cost == least && assignment.as_slice() == values,
+        Some(
+            MaxAnswer::Optimum {
+                cost,
+                assignment,
+                ..
+            },
+        ) => cost == least && assignment.as_slice() == values,
         _ => false,
     }
 }
@@ -72,8 +83,16 @@ fn is_open(alloc: Global, input: &str, conflicts: u64) -> bool {
 fn optima_are_found(rt: HostRuntime) {
     let alloc = rt.alloc();
     assert!(rt; SINGLE.iter().all(|(input, cost, values)| is_single(alloc, input, *cost, values)));
-    assert!(rt; SEVERAL.iter().all(|(input, cost)| costs_least(alloc, input, *cost)));
-    assert!(rt; UNSATISFIABLE.iter().all(|input| is_unsatisfiable(alloc, input, CONFLICTS)));
+    assert!(rt;
+        SEVERAL
+            .iter()
+            .all(|(input, cost)| costs_least(alloc, input, *cost))
+    );
+    assert!(rt;
+        UNSATISFIABLE
+            .iter()
+            .all(|input| is_unsatisfiable(alloc, input, CONFLICTS))
+    );
 }
 
 #[test]

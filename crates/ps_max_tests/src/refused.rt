@@ -19,8 +19,16 @@ const UNREADABLE: [(&str, WcnfKind, u64); 14] = [
     ("1 -0 0\n", WcnfKind::BadLine, 1),
     ("4611686018427387905 0", WcnfKind::TooLarge, 1),
     ("1 1 1024 0\n", WcnfKind::TooLarge, 1),
-    ("h 1024 0\n1 1 0\n1 1 -1 2 0\n1 1 2 0\n", WcnfKind::TooLarge, 4),
-    ("h 9999999999999999999999999999999999999999999 0\nx", WcnfKind::TooLarge, 1),
+    (
+        "h 1024 0\n1 1 0\n1 1 -1 2 0\n1 1 2 0\n",
+        WcnfKind::TooLarge,
+        4,
+    ),
+    (
+        "h 9999999999999999999999999999999999999999999 0\nx",
+        WcnfKind::TooLarge,
+        1,
+    ),
 ];
 
 // An optimum of the clauses `h 1 2 0`, `3 -1 0`, `2 -2 0` without steps, and the reason against it.
@@ -64,11 +72,13 @@ fn is_refused(alloc: Global, values: &[bool], cost: i128, reason: MaxError) -> b
 #[test]
 fn lines_at_fault_are_named(rt: HostRuntime) {
     let alloc = rt.alloc();
-    assert!(rt; UNREADABLE.iter().all(|(input, kind, line)| is_unreadable(alloc, input, *kind, *line)));
+    let mut lines = UNREADABLE.iter();
+    assert!(rt; lines.all(|(input, kind, line)| is_unreadable(alloc, input, *kind, *line)));
 }
 
 #[test]
 fn first_reasons_are_named(rt: HostRuntime) {
     let alloc = rt.alloc();
-    assert!(rt; REFUSED.iter().all(|(values, cost, reason)| is_refused(alloc, values, *cost, *reason)));
+    let mut answers = REFUSED.iter();
+    assert!(rt; answers.all(|(values, cost, reason)| is_refused(alloc, values, *cost, *reason)));
 }
