@@ -69,18 +69,18 @@ module _ (level depth : ℕ) where
   fold-and [] h k ks = k
   fold-and (g ∷ gs) h k ks = fold-and gs (formula.And h g)
       (λ r small.
-          let one : nesting_at 4 h ≡ deep-and = (let e : nesting_at 4 h ≡ 0 + deep-and = k 4 (omega arith) in omega (arith, e)) in
-          let two : nesting_at 5 g ≡ deep-and = All-head (Nests level depth) g gs ks 5 (omega arith) in
-          ap (λ m. parenthesis r 4 + max m (nesting_at 5 g)) one ∙ ap (λ m. parenthesis r 4 + max deep-and m) two ∙ ap (λ m. parenthesis r 4 + m) (max-self deep-and))
+      let one : nesting_at 4 h ≡ deep-and = (let e : nesting_at 4 h ≡ 0 + deep-and = k 4 (omega arith) in omega (arith, e)) in
+      let two : nesting_at 5 g ≡ deep-and = All-head (Nests level depth) g gs ks 5 (omega arith) in
+      ap (λ m. parenthesis r 4 + max m (nesting_at 5 g)) one ∙ ap (λ m. parenthesis r 4 + max deep-and m) two ∙ ap (λ m. parenthesis r 4 + m) (max-self deep-and))
       (All-tail (Nests level depth) g gs ks)
 
   fold-or : (gs : List (Formula Name)) (h : Formula Name) → Nests 3 deep-or h → All (Nests level depth) gs → Nests 3 deep-or (fold formula.Or h gs)
   fold-or [] h k ks = k
   fold-or (g ∷ gs) h k ks = fold-or gs (formula.Or h g)
       (λ r small.
-          let one : nesting_at 3 h ≡ deep-or = (let e : nesting_at 3 h ≡ 0 + deep-or = k 3 (omega arith) in omega (arith, e)) in
-          let two : nesting_at 4 g ≡ deep-or = All-head (Nests level depth) g gs ks 4 (omega arith) in
-          ap (λ m. parenthesis r 3 + max m (nesting_at 4 g)) one ∙ ap (λ m. parenthesis r 3 + max deep-or m) two ∙ ap (λ m. parenthesis r 3 + m) (max-self deep-or))
+      let one : nesting_at 3 h ≡ deep-or = (let e : nesting_at 3 h ≡ 0 + deep-or = k 3 (omega arith) in omega (arith, e)) in
+      let two : nesting_at 4 g ≡ deep-or = All-head (Nests level depth) g gs ks 4 (omega arith) in
+      ap (λ m. parenthesis r 3 + max m (nesting_at 4 g)) one ∙ ap (λ m. parenthesis r 3 + max deep-or m) two ∙ ap (λ m. parenthesis r 3 + m) (max-self deep-or))
       (All-tail (Nests level depth) g gs ks)
 
   first-and : (g h : Formula Name) → Nests level depth g → Nests level depth h → Nests 4 deep-and (formula.And g h)

@@ -8,8 +8,8 @@ ghost use Rattle.ps_wcnf.specs.Limits.{IsText};
 ghost use Rattle.ps_wcnf.specs.Valued.{after, variables_after, own_clause, own_clauses};
 ghost use Rattle.ps_wcnf.specs.Valued.{own_literal, own_literals, form_of, literals_of};
 
-use crate::shape::{is_long, is_tautology, once};
 use crate::checks::check_text;
+use crate::shape::{is_long, is_tautology, once};
 use crate::text::WcnfText;
 use ps_clause::ClauseForm;
 use ps_io::{List, NoMemory};
