@@ -1,9 +1,11 @@
 //! The form of hard and soft clauses, their weighted literals, and the base of values.
-ghost use Rattle.std.specs.Prelude.{◌≡◌, ◌≤◌, ◌<◌, ◌+◌, ◌++◌, [], ◌∷◌, All, length, IfOk, OnOk, map};
+ghost use Rattle.std.specs.Prelude.{◌≡◌, ◌≤◌, ◌<◌, ◌+◌, ◌++◌, [], ◌∷◌};
+ghost use Rattle.std.specs.Prelude.{All, length, IfOk, OnOk, map};
 ghost use Rattle.ps_pb.specs.Assignments.{place};
 ghost use Rattle.ps_pb.specs.declared.limits.TheConstants.{MOST_VARIABLES};
 ghost use Rattle.ps_clause.specs.Limits.{most_clauses};
-ghost use Rattle.ps_wcnf.specs.Built.{with_clauses, IsNamedBelow, AreNamedBelow, HardNamed, SoftNamed};
+ghost use Rattle.ps_wcnf.specs.Built.{with_clauses, IsNamedBelow, AreNamedBelow};
+ghost use Rattle.ps_wcnf.specs.Built.{HardNamed, SoftNamed};
 ghost use Rattle.ps_wcnf.specs.Limits.{IsText};
 ghost use Rattle.ps_wcnf.specs.Valued.{after, variables_after, own_clause, own_clauses};
 ghost use Rattle.ps_wcnf.specs.Valued.{own_literal, own_literals, form_of, literals_of};

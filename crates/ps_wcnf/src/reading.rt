@@ -36,10 +36,10 @@ fn take_line(alloc: Global, draft: &mut Draft, line: &[u8]) -> Result<Option<Wcn
 }
 
 /// Reads hard and soft clauses. A line ends with a line feed, before which one carriage return is
-/// dropped, or with the text. It has no word; or the first begins with `c`; or the first is `h` or a
-/// weight of at least 1, and literals and a closing `0` follow. The first line is answered that has
-/// none of these forms, or with which a weight is more than 2^62, a literal's size more than 1,024,
-/// the sum of the weights more than 2^90, the number of clauses more than 1,000,000, or the
+/// dropped, or with the text. It has no word; or the first begins with `c`; or the first is `h` or
+/// a weight of at least 1, and literals and a closing `0` follow. The first line is answered that
+/// has none of these forms, or with which a weight is more than 2^62, a literal's size more than
+/// 1,024, the sum of the weights more than 2^90, the number of clauses more than 1,000,000, or the
 /// variables and those of the soft clauses' own together more than 1,024.
 pub fn read_wcnf(alloc: Global, bytes: &[u8]) -> Result<WcnfText, WcnfError>
     ensures read { IsReading bytes.now result }
