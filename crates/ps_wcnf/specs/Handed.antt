@@ -1,5 +1,5 @@
 -- The form of a text as it is handed on.
-use Rattle.std.specs.Prelude.{ℕ, ◌≡◌, ◌+◌, ◌<◌, ◌≤◌, ◌^◌, pos, ◌≤ℤ◌, All}
+use Rattle.std.specs.Prelude.{◌≡◌, ◌+◌, ◌<◌, ◌≤◌, ◌^◌, pos, ◌≤ℤ◌, All}
 use Rattle.ps_pb.specs.Assignments.{place}
 use Rattle.ps_pb.specs.Weights.{size_sum}
 use Rattle.ps_wcnf.specs.Valued.{form_of, literals_of, base_of}
