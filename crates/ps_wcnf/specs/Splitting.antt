@@ -1,6 +1,7 @@
 -- The lines of a text, and the words of a line.
 use Rattle.std.specs.Prelude.{ℕ, ◌-◌, ◌<◌, ◌≡◌, ◌==◌, nat_lt, Bool, ◌&&◌, ◌||◌, if◌then◌else◌, Option, Some, None, List, [], ◌∷◌, length, take, slice_index}
 use Rattle.std.specs.List.{filter, slice_split}
+use Rattle.ps_log.specs.FirstLines.{IsFirstLine, IsOneLine}
 
 -- a space or a tab
 abbrev pub is_blank : ℕ → Bool
@@ -46,3 +47,14 @@ pub record IsFirstPart (text part after : List ℕ) : Type 0 where
 pub record IsFirstWord (text word after : List ℕ) : Type 0 where
   pub words : words_of text ≡ word ∷ words_of after
   pub shorter : length after < length text
+
+-- a line that a line feed ends, without one carriage return before that, and what follows
+pub record IsEndedLine (text line after : List ℕ) : Type 0 where
+  pub part : List ℕ
+  pub first : IsFirstLine text part after
+  pub is : line ≡ without_return part
+
+-- the first line of a text, and what follows the line feed that ends it, if one does
+abbrev pub IsCutLine : List ℕ → List ℕ → Option (List ℕ) → Type 0
+IsCutLine text line None = (line ≡ text) × IsOneLine text
+IsCutLine text line (Some after) = IsEndedLine text line after

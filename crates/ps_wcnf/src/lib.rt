@@ -19,6 +19,7 @@ mod weighing;
 pub use checks::check_text;
 pub use laws::values_tell_costs;
 pub use reading::read_wcnf;
+pub use splitting::{next_line, next_word};
 pub use text::{ClauseList, SoftList, WcnfText};
 pub use valued::{ValuedForm, valued_form};
 pub use wcnf_error::{WcnfError, WcnfKind};

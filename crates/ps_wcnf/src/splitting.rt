@@ -2,7 +2,7 @@
 ghost use Rattle.std.specs.Prelude.{◌≡◌, ◌<◌, ◌+◌, [], ◌∷◌, IfSome, IfNone, option_copied, length};
 ghost use Rattle.std.specs.List.{slice_split};
 ghost use Rattle.ps_wcnf.specs.Splitting.{is_blank, words_of, ends_with_return, without_return};
-ghost use Rattle.ps_wcnf.specs.Splitting.{lines_of, lines_after, IsFirstPart, IsFirstWord};
+ghost use Rattle.ps_wcnf.specs.Splitting.{lines_of, lines_after, IsCutLine, IsFirstPart, IsFirstWord};
 ghost use Rattle.ps_log.specs.Numbers.{left_of};
 
 use ps_log::split_once;
@@ -27,7 +27,7 @@ fn split_part(text: &[u8]) -> Option<(&[u8], &[u8])>
 }
 
 /// The first word, and what follows it.
-pub(crate) fn next_word(text: &[u8]) -> Option<(&[u8], &[u8])>
+pub fn next_word(text: &[u8]) -> Option<(&[u8], &[u8])>
     ensures found { IfSome result (λ r. IsFirstWord text.now r.0.now r.1.now) }
     ensures none { IfNone result (words_of text.now ≡ []) }
 {
@@ -61,7 +61,8 @@ fn without_return(line: &[u8]) -> &[u8]
 }
 
 /// The first line, and what follows the line feed that ends it, if one does.
-pub(crate) fn next_line(text: &[u8]) -> (&[u8], Option<&[u8]>)
+pub fn next_line(text: &[u8]) -> (&[u8], Option<&[u8]>)
+    ensures cut { IsCutLine text.now result.0.now (option_copied result.1) }
     ensures lines { lines_of text.now ≡ result.0.now ∷ lines_after (option_copied result.1) }
     ensures shorter { left_of (option_copied result.1) < length text.now + 1 }
 {
