@@ -60,7 +60,7 @@ pub record IsCost (c : ℤ) : Type 0 where
 -- as many steps as a text may have, each within the limits
 pub record AreStepsWithin (steps : List Step) : Type 0 where
   pub few : length steps ≤ 2 ^ 41
-  pub steps : AllByRecursion IsStepWithin steps
+  pub each : AllByRecursion IsStepWithin steps
 
 -- an assignment of as many variables as a text may have, with a cost
 pub record IsCosted (c : ℤ) (w : List Bool) : Type 0 where

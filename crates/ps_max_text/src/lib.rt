@@ -3,6 +3,7 @@
 
 mod item;
 mod item_reader;
+mod laws;
 mod line;
 mod lines;
 mod part;
@@ -10,6 +11,7 @@ mod reading;
 mod writing;
 
 pub use item::MaxItem;
+pub use laws::{answers_are_short, texts_are_read_back};
 pub use part::MaxPart;
 pub use ps_answer::{LineKind, ReportError};
 pub use reading::read_max;

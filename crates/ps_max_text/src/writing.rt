@@ -1,9 +1,10 @@
 //! Answers that are written.
-ghost use Rattle.std.specs.Prelude.{◌≡◌, ◌<◌, ◌++◌, [], ◌∷◌, codes, length, map, pos};
+ghost use Rattle.std.specs.Prelude.{◌≡◌, ◌<◌, ◌++◌, [], ◌∷◌, Some, codes, length, map, pos};
 ghost use Rattle.std.specs.List.{AllByRecursion};
 ghost use Rattle.ps_io.specs.LineText.{IsWord};
 ghost use Rattle.ps_io.specs.Lines.{text_of};
 ghost use Rattle.ps_io.specs.Wrote.{Wrote};
+ghost use Rattle.ps_log.specs.Lines.{HoldsLine};
 ghost use Rattle.ps_log.specs.Texts.{step_line, goal_line, with_numbers};
 ghost use Rattle.ps_max_text.specs.Texts.{body_lines, log_lines, max_lines, numbered_line};
 ghost use Rattle.ps_max_text.specs.Texts.{best_lines, values_line, open_lines, IsShortLine};
@@ -15,13 +16,10 @@ use ps_max_answer::MaxAnswer;
 use ps_pb::{Constraint, Step};
 use ps_report::add_world;
 
-// Writes the first line.
-fn write_head<O: Sink>(lines: &mut Lines<'_, O>) -> Result<(), WriteFault>
-    requires { text_of lines.old ≡ [] }
-    ensures { Wrote O.written O.faults lines.old lines.new result (codes "maxsat 1" ∷ []) }
+// Writes the line as it stands.
+fn end_line<O: Sink>(lines: &mut Lines<'_, O>) -> Result<(), WriteFault>
+    ensures { Wrote O.written O.faults lines.old lines.new result (text_of lines.old ∷ []) }
 {
-    lines.word(b"maxsat");
-    lines.number(1);
     lines.end_line()
 }
 
@@ -36,20 +34,29 @@ fn write_word<O: Sink>(lines: &mut Lines<'_, O>, word: &[u8]) -> Result<(), Writ
     lines.end_line()
 }
 
-// Writes a line of a word and a number.
-fn write_numbered<O: Sink>(
-    lines: &mut Lines<'_, O>,
-    word: &[u8],
-    number: i128,
-) -> Result<(), WriteFault>
+// Writes a line of a word and a count.
+fn write_count<O: Sink>(lines: &mut Lines<'_, O>, word: &[u8], count: u64) -> Result<(), WriteFault>
     requires empty { text_of lines.old ≡ [] }
     requires one_word { IsWord word.now }
     requires short { length word.now < 20 }
     ensures { Wrote O.written O.faults lines.old lines.new result
-        (numbered_line word.now number ∷ []) }
+        (numbered_line word.now (pos count) ∷ []) }
 {
     lines.word(word);
-    lines.number(number);
+    lines.number(count as i128);
+    lines.end_line()
+}
+
+// Writes a line of a word and a cost.
+fn write_cost<O: Sink>(lines: &mut Lines<'_, O>, word: &[u8], cost: &i128) -> Result<(), WriteFault>
+    requires empty { text_of lines.old ≡ [] }
+    requires one_word { IsWord word.now }
+    requires short { length word.now < 20 }
+    ensures { Wrote O.written O.faults lines.old lines.new result
+        (numbered_line word.now cost.now ∷ []) }
+{
+    lines.word(word);
+    lines.number(*cost);
     lines.end_line()
 }
 
@@ -82,7 +89,7 @@ fn write_log<O: Sink>(lines: &mut Lines<'_, O>, steps: &[Step]) -> Result<(), Wr
     requires short { AllByRecursion IsShortLine (log_lines steps.now) }
     ensures { Wrote O.written O.faults lines.old lines.new result (log_lines steps.now) }
 {
-    write_numbered(lines, b"log", steps.len() as i128)?;
+    write_count(lines, b"log", steps.len() as u64)?;
     write_steps(lines, steps)
 }
 
@@ -102,17 +109,36 @@ fn write_found<O: Sink>(
     write_log(lines, steps)
 }
 
-// Writes the first line of a search that was spent.
-fn write_open<O: Sink>(lines: &mut Lines<'_, O>, limit: u64, count: u64) -> Result<(), WriteFault>
-    requires empty { text_of lines.old ≡ [] }
-    ensures { Wrote O.written O.faults lines.old lines.new result
-        (with_numbers (codes "open conflicts") (pos limit ∷ pos count ∷ []) ∷ []) }
+// Adds why an answer is open, the limit of conflicts, and how many steps follow.
+fn add_open<O: Sink>(lines: &mut Lines<'_, O>, limit: u64, count: u64)
+    requires { text_of lines.old ≡ [] }
+    ensures { HoldsLine lines.old lines.new
+        (with_numbers (codes "open conflicts") (pos limit ∷ pos count ∷ [])) }
 {
     lines.word(b"open");
     lines.word(b"conflicts");
     lines.number(limit as i128);
     lines.number(count as i128);
-    lines.end_line()
+}
+
+// Writes the first line of a search that was spent.
+fn write_open<O: Sink>(lines: &mut Lines<'_, O>, limit: u64, count: u64) -> Result<(), WriteFault>
+    requires { text_of lines.old ≡ [] }
+    ensures { Wrote O.written O.faults lines.old lines.new result
+        (with_numbers (codes "open conflicts") (pos limit ∷ pos count ∷ []) ∷ []) }
+{
+    add_open(lines, limit, count);
+    end_line(lines)
+}
+
+// Writes an assignment with its cost.
+fn write_costed<O: Sink>(lines: &mut Lines<'_, O>, best: &(i128, World)) -> Result<(), WriteFault>
+    requires empty { text_of lines.old ≡ [] }
+    requires short { AllByRecursion IsShortLine (best_lines (Some best.now)) }
+    ensures { Wrote O.written O.faults lines.old lines.new result (best_lines (Some best.now)) }
+{
+    write_cost(lines, b"best", &best.0)?;
+    write_values(lines, &best.1)
 }
 
 // Writes the best assignment so far, or that there is none.
@@ -130,10 +156,7 @@ fn write_best<O: Sink>(
             lines.word(b"none");
             lines.end_line()
         }
-        Some((cost, assignment)) => {
-            write_numbered(lines, b"best", *cost)?;
-            write_values(lines, assignment)
-        }
+        Some(best) => write_costed(lines, best),
     }
 }
 
@@ -165,7 +188,7 @@ fn write_body<O: Sink>(answer: &MaxAnswer, lines: &mut Lines<'_, O>) -> Result<(
             assignment,
             steps,
         } => {
-            write_numbered(lines, b"optimum", *cost)?;
+            write_cost(lines, b"optimum", cost)?;
             write_found(lines, assignment, steps.as_slice())
         }
         MaxAnswer::Unsatisfiable { steps } => {
@@ -191,7 +214,7 @@ pub fn write_max<O: Sink>(answer: &MaxAnswer, lines: &mut Lines<'_, O>) -> Resul
     requires short { AllByRecursion IsShortLine (max_lines answer.now) }
     ensures { Wrote O.written O.faults lines.old lines.new result (max_lines answer.now) }
 {
-    write_head(lines)?;
+    write_count(lines, b"maxsat", 1)?;
     write_body(answer, lines)?;
     write_word(lines, b"end")
 }
