@@ -14,6 +14,7 @@ use Rattle.ps_max_text.specs.Parts.{first_words, behind, at_start, due_behind}
 use Rattle.ps_max_text.specs.Texts.{max_text, IsMaxWithin}
 use Rattle.ps_max_text.specs.declared.item.MaxItem.{MaxItem}
 use Rattle.ps_max_text.specs.declared.part.MaxPart.{MaxPart}
+use Rattle.ps_max_text.specs.declared.part.MaxPart.TheVariants.{Values, Step, Goal}
 
 -- lines say these things, one each
 abbrev pub AreLines : List (List ℕ) → List MaxItem → Type 0
@@ -80,8 +81,39 @@ pub record IsFirstFault (bytes : List ℕ) (kind : LineKind) (line : ℕ) : Type
   pub number : line ≡ length items + 1
   pub fault : IsFault due rest kind
 
--- what is read of bytes: the answer whose text they are, within the limits, or the first line at fault
+-- memory is taken for what a line says where one of these parts is due: for values, steps and goals
+abbrev pub TakesMemory : MaxPart → Type 0
+TakesMemory Values = ⊤
+TakesMemory Step = ⊤
+TakesMemory Goal = ⊤
+TakesMemory p = ⊥
+
+-- the first line begins with a word that is due, and memory is taken for what it says
+pub record IsLackingLine (p : MaxPart) (bytes : List ℕ) : Type 0 where
+  pub line : List ℕ
+  pub rest : List ℕ
+  pub first : IsFirstLine bytes line rest
+  pub begun : is_begun p line ≡ true
+  pub takes : TakesMemory p
+
+-- where these parts are due, memory is taken for the first line
+abbrev pub IsLacking : List MaxPart → List ℕ → Type 0
+IsLacking [] bytes = ⊥
+IsLacking (p ∷ due) bytes = IsLackingLine p bytes
+
+-- where these parts are due, lines before one are due and within the limits, and for this one memory is taken
+pub record LacksAt (parts : List MaxPart) (bytes : List ℕ) : Type 0 where
+  pub items : List MaxItem
+  pub rest : List ℕ
+  pub next : List MaxPart
+  pub before : BeginWith bytes items rest
+  pub within : AllByRecursion IsWithin items
+  pub due_is : due_behind parts items ≡ Some next
+  pub takes : IsLacking next rest
+
+-- what is read of bytes: the answer whose text they are, within the limits; or the first line at fault; or memory lacks for a
+-- line, and none before it is at fault
 abbrev pub IsMaxRead : List ℕ → Result MaxAnswer ReportError → Type 0
 IsMaxRead bytes (Ok a) = (bytes ≡ max_text a) × IsMaxWithin a
 IsMaxRead bytes (Err (At kind line)) = IsFirstFault bytes kind line
-IsMaxRead bytes (Err NoMemory) = ⊤
+IsMaxRead bytes (Err NoMemory) = LacksAt at_start bytes

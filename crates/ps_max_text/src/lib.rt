@@ -8,6 +8,7 @@ mod line;
 mod lines;
 mod part;
 mod reading;
+mod values;
 mod writing;
 
 pub use item::MaxItem;

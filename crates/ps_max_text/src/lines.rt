@@ -18,8 +18,15 @@ pub(crate) struct Lines<'b> {
 }
 
 impl<'b> Lines<'b> {
+    ghost use Rattle.std.specs.Prelude.{◌≡◌, ◌∷◌, [], IfOk, IfErr, OnErr};
+    ghost use Rattle.ps_max_text.specs.Read.{Fits};
+    ghost use Rattle.ps_max_text.specs.Taken.{Takes, IsStopped, IsMore, left_in};
+
     /// All lines of some bytes.
-    pub(crate) fn of(alloc: Global, bytes: &'b [u8]) -> Lines<'b> {
+    pub(crate) fn of(alloc: Global, bytes: &'b [u8]) -> Lines<'b>
+        ensures left { left_in result ≡ bytes.now }
+        ensures none_taken { result.taken ≡ 0 }
+    {
         Lines {
             alloc,
             rest: bytes,
@@ -33,7 +40,12 @@ impl<'b> Lines<'b> {
     }
 
     /// Takes a line, where a part is due. After an error the lines are as they were.
-    pub(crate) fn take(&mut self, part: MaxPart) -> Result<MaxItem, ReportError> {
+    pub(crate) fn take(&mut self, part: MaxPart) -> Result<MaxItem, ReportError>
+        ensures line { IfOk result (λ i. Takes self.old self.new (i ∷ [])) }
+        ensures fits { IfOk result (λ i. Fits part i) }
+        ensures stopped { IfErr result (λ e. IsStopped self.old (part ∷ []) e) }
+        ensures unchanged { OnErr result (self.new ≡ self.old) }
+    {
         match read_line(self.alloc, part, self.rest) {
             Ok((item, rest)) => {
                 *self = Lines {
@@ -52,7 +64,10 @@ impl<'b> Lines<'b> {
     }
 
     /// That nothing is left.
-    pub(crate) fn end(&self) -> Result<(), ReportError> {
+    pub(crate) fn end(&self) -> Result<(), ReportError>
+        ensures none { IfOk result (λ u. left_in self.now ≡ []) }
+        ensures more { IfErr result (λ e. IsMore self.now e) }
+    {
         if self.rest.is_empty() {
             Ok(())
         } else {

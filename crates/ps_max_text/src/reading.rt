@@ -1,5 +1,11 @@
 //! Answers that are read.
+ghost use Rattle.std.specs.Prelude.{◌≡◌, ◌∷◌, ◌++◌, [], map, length, IfOk};
+ghost use Rattle.ps_max_text.specs.Answered.{max_items, body_items, best_items, log_items};
 ghost use Rattle.ps_max_text.specs.Faults.{IsMaxRead};
+ghost use Rattle.ps_max_text.specs.Parts.{at_start, many_steps};
+ghost use Rattle.ps_max_text.specs.Taken.{IsLineRead, IsValueRead, IsRestRead, just_steps};
+ghost use Rattle.ps_max_text.specs.declared.item.MaxItem.TheVariants as line;
+ghost use Rattle.ps_max_text.specs.declared.part.MaxPart.TheVariants as part;
 
 use crate::item::MaxItem;
 use crate::lines::Lines;
@@ -17,34 +23,56 @@ pub fn read_max(alloc: Global, bytes: &[u8]) -> Result<MaxAnswer, ReportError>
     ensures { IsMaxRead bytes.now result }
 {
     let mut lines = Lines::of(alloc, bytes);
-    lines.take(MaxPart::Head)?;
     let answer = answer(&mut lines)?;
-    lines.take(MaxPart::End)?;
     lines.end()?;
     Ok(answer)
 }
 
-fn answer(lines: &mut Lines<'_>) -> Result<MaxAnswer, ReportError> {
+fn answer(lines: &mut Lines<'_>) -> Result<MaxAnswer, ReportError>
+    ensures { IsValueRead max_items at_start lines.old lines.new result }
+{
+    lines.take(MaxPart::Head)?;
+    let answer = body(lines)?;
+    lines.take(MaxPart::End)?;
+    Ok(answer)
+}
+
+// The lines between the first and the last.
+fn body(lines: &mut Lines<'_>) -> Result<MaxAnswer, ReportError>
+    ensures { IsValueRead body_items (part.Answer ∷ []) lines.old lines.new result }
+{
     match lines.take(MaxPart::Answer)? {
-        MaxItem::Optimum { cost } => {
-            let assignment = values(lines)?;
-            let steps = log(lines)?;
-            Ok(MaxAnswer::Optimum {
-                cost,
-                assignment,
-                steps,
-            })
-        }
-        MaxItem::Unsatisfiable => {
-            let steps = log(lines)?;
-            Ok(MaxAnswer::Unsatisfiable { steps })
-        }
+        MaxItem::Optimum { cost } => optimum(lines, cost),
+        MaxItem::Unsatisfiable => unsatisfiable(lines),
         MaxItem::OpenConflicts { limit, count } => open(lines, limit, count),
         _ => unreachable!(),
     }
 }
 
-fn open(lines: &mut Lines<'_>, limit: u64, count: u64) -> Result<MaxAnswer, ReportError> {
+fn optimum(lines: &mut Lines<'_>, cost: i128) -> Result<MaxAnswer, ReportError>
+    ensures { IsRestRead body_items (line.Optimum cost) (part.Values ∷ part.Log ∷ [])
+        lines.old lines.new result }
+{
+    let assignment = values(lines)?;
+    let steps = log(lines)?;
+    Ok(MaxAnswer::Optimum {
+        cost,
+        assignment,
+        steps,
+    })
+}
+
+fn unsatisfiable(lines: &mut Lines<'_>) -> Result<MaxAnswer, ReportError>
+    ensures { IsRestRead body_items line.Unsatisfiable (part.Log ∷ []) lines.old lines.new result }
+{
+    let steps = log(lines)?;
+    Ok(MaxAnswer::Unsatisfiable { steps })
+}
+
+fn open(lines: &mut Lines<'_>, limit: u64, count: u64) -> Result<MaxAnswer, ReportError>
+    ensures { IsRestRead body_items (line.OpenConflicts limit count)
+        (part.Goal ∷ just_steps count ++ part.Best ∷ []) lines.old lines.new result }
+{
     let goal = goal(lines)?;
     let steps = steps(lines, count)?;
     let best = best(lines)?;
@@ -56,22 +84,37 @@ fn open(lines: &mut Lines<'_>, limit: u64, count: u64) -> Result<MaxAnswer, Repo
     })
 }
 
-fn values(lines: &mut Lines<'_>) -> Result<World, ReportError> {
+fn values(lines: &mut Lines<'_>) -> Result<World, ReportError>
+    ensures { IsLineRead (λ w. line.Values w) part.Values lines.old lines.new result }
+{
     match lines.take(MaxPart::Values)? {
         MaxItem::Values { values } => Ok(values),
         _ => unreachable!(),
     }
 }
 
-fn best(lines: &mut Lines<'_>) -> Result<Option<(i128, World)>, ReportError> {
+fn best(lines: &mut Lines<'_>) -> Result<Option<(i128, World)>, ReportError>
+    ensures { IsValueRead best_items (part.Best ∷ []) lines.old lines.new result }
+{
     match lines.take(MaxPart::Best)? {
         MaxItem::NoBest => Ok(None),
-        MaxItem::Best { cost } => Ok(Some((cost, values(lines)?))),
+        MaxItem::Best { cost } => best_of(lines, cost),
         _ => unreachable!(),
     }
 }
 
-fn goal(lines: &mut Lines<'_>) -> Result<Constraint, ReportError> {
+// The assignment of this cost.
+fn best_of(lines: &mut Lines<'_>, cost: i128) -> Result<Option<(i128, World)>, ReportError>
+    ensures { IsRestRead best_items (line.Best cost) (part.Values ∷ []) lines.old lines.new
+        result }
+{
+    let assignment = values(lines)?;
+    Ok(Some((cost, assignment)))
+}
+
+fn goal(lines: &mut Lines<'_>) -> Result<Constraint, ReportError>
+    ensures { IsLineRead (λ g. line.GoalLine g) part.Goal lines.old lines.new result }
+{
     match lines.take(MaxPart::Goal)? {
         MaxItem::GoalLine { goal } => Ok(goal),
         _ => unreachable!(),
@@ -79,14 +122,26 @@ fn goal(lines: &mut Lines<'_>) -> Result<Constraint, ReportError> {
 }
 
 // How many steps there are, and each of them.
-fn log(lines: &mut Lines<'_>) -> Result<Steps, ReportError> {
+fn log(lines: &mut Lines<'_>) -> Result<Steps, ReportError>
+    ensures { IsValueRead log_items (part.Log ∷ []) lines.old lines.new result }
+{
+    let count = log_head(lines)?;
+    steps(lines, count)
+}
+
+fn log_head(lines: &mut Lines<'_>) -> Result<u64, ReportError>
+    ensures { IsLineRead (λ n. line.LogHead n) part.Log lines.old lines.new result }
+{
     match lines.take(MaxPart::Log)? {
-        MaxItem::LogHead { count } => steps(lines, count),
+        MaxItem::LogHead { count } => Ok(count),
         _ => unreachable!(),
     }
 }
 
-fn steps(lines: &mut Lines<'_>, count: u64) -> Result<Steps, ReportError> {
+fn steps(lines: &mut Lines<'_>, count: u64) -> Result<Steps, ReportError>
+    ensures steps { IsValueRead (map line.StepLine) (just_steps count) lines.old lines.new result }
+    ensures count { IfOk result (λ ss. length ss ≡ count) }
+{
     let mut steps = List::new(lines.alloc());
     for _ in 0..count {
         steps.push(step(lines)?)?;
@@ -94,7 +149,9 @@ fn steps(lines: &mut Lines<'_>, count: u64) -> Result<Steps, ReportError> {
     Ok(steps)
 }
 
-fn step(lines: &mut Lines<'_>) -> Result<Step, ReportError> {
+fn step(lines: &mut Lines<'_>) -> Result<Step, ReportError>
+    ensures { IsLineRead (λ s. line.StepLine s) part.Step lines.old lines.new result }
+{
     match lines.take(MaxPart::Step)? {
         MaxItem::StepLine { step } => Ok(step),
         _ => unreachable!(),
