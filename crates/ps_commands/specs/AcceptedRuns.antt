@@ -68,8 +68,8 @@ pub record AcceptsAnswer (text line : List ℕ) (status : Status) : Type 0 where
   pub line_is : line ≡ (accepted_line answer).text
   pub status_is : status ≡ Done
 
--- what a run of `maxsat` wrote is accepted by each run of `check-maxsat` that is given it behind its clauses and is allowed so many
--- bytes
+-- what a run of `maxsat` wrote is accepted by each run of `check-maxsat` that is given it behind its clauses and is allowed so
+-- many bytes
 abbrev pub MaxRunsAreAccepted : Type 0
 MaxRunsAreAccepted = (conflicts most : ℕ) (bytes text line : List ℕ) (t : WcnfText) (asked checked : Status)
     → IsRead (lines_of bytes) t → length bytes ≤ MOST_PROBLEM → length (behind_problem bytes text) ≤ most

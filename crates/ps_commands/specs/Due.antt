@@ -191,8 +191,8 @@ AreNoProblem bytes = (p : Parts) → length bytes ≤ MOST_PROBLEM → ¬ Spells
 abbrev pub AreNoClauses : List ℕ → Type 0
 AreNoClauses bytes = (t : WcnfText) → length bytes ≤ MOST_PROBLEM → ¬ IsRead (lines_of bytes) t
 
--- where one output at most is due: for `check`, `upgrade` and `check-maxsat` always; for `solve`, `explain` and `maxsat` where the
--- bytes are no problem or no clauses, since to these there may be several right answers; for `make` it is never claimed
+-- where one output at most is due: for `check`, `upgrade` and `check-maxsat` always; for `solve`, `explain` and `maxsat` where
+-- the bytes are no problem or no clauses, since to these there may be several right answers; for `make` it is never claimed
 abbrev pub IsSingle : Command → List ℕ → Type 0
 IsSingle (Check limit) bytes = Unit {0}
 IsSingle (Solve limits enough) bytes = AreNoProblem bytes

@@ -10,19 +10,27 @@ use Rattle.ps_first_order.specs.declared.part.Connective.TheVariants as connecti
 use Rattle.ps_first_order.specs.declared.part.Part.{Part}
 use Rattle.ps_first_order.specs.declared.part.Part.TheVariants as part
 use Rattle.ps_first_order.specs.declared.part.FirstOrderParts.{FirstOrderParts}
-use Rattle.ps_first_order.specs.FirstOrder.{FirstOrder, Assignment, Signature, IsSentence}
+use Rattle.ps_first_order.specs.FirstOrder.{FirstOrder, Assignment, Signature, Term, IsSentence, constant_of}
 use Rattle.ps_first_order.specs.FirstOrder as first_order
-use Rattle.ps_first_order.specs.Parts.{operand, formulas_in}
+use Rattle.ps_first_order.specs.Parts.{operand, formulas_in, formula_over, terms_of}
 use Rattle.ps_ground.specs.declared.limits.TheConstants.{MOST_MARKS}
 use Rattle.ps_ground.specs.declared.mark.GroundMark.{GroundMark}
 use Rattle.ps_ground.specs.declared.mark.GroundMark.TheVariants as mark
 use Rattle.ps_ground.specs.declared.mark.GroundFault.{GroundFault}
 use Rattle.ps_ground.specs.declared.mark.GroundFault.TheVariants as fault
-use Rattle.ps_ground.specs.Grounding.{ground_under, ground_formula}
+use Rattle.ps_ground.specs.Grounding.{atom_name, ground_under, ground_formula}
 
 -- the assignment in which each variable stands for the constant of a number
 abbrev pub assignment_in : FirstOrderParts → List ℕ → Assignment
 assignment_in p numbers x = name_at p.constants (slice_index_or numbers (place_in same_name p.variables x) 0)
+
+-- the constant that a term stands for there
+abbrev pub constant_in : FirstOrderParts → List ℕ → Term → Name
+constant_in p numbers t = constant_of (assignment_in p numbers) t
+
+-- the name of a predicate with the constants that its terms, from one place to another, stand for there
+abbrev pub name_in : FirstOrderParts → List ℕ → ℕ → ℕ → ℕ → Name
+name_in p numbers i start end = atom_name (name_at p.predicates i) (map (constant_in p numbers) (terms_of p start end))
 
 -- there is a constant for each variable
 pub record AreNumbers (p : FirstOrderParts) (numbers : List ℕ) : Type 0 where
@@ -47,6 +55,14 @@ marks_of f = map mark_of (subformulas f)
 -- the ground formula of a part
 abbrev pub ground_part : FirstOrderParts → ℕ → Assignment → Formula Name
 ground_part p i a = ground_under (operand (formulas_in p) i) p.constants a
+
+-- the marks of a part's ground formula, where each variable stands for the constant of a number
+abbrev pub marks_in : FirstOrderParts → ℕ → List ℕ → List GroundMark
+marks_in p i numbers = marks_of (ground_part p i (assignment_in p numbers))
+
+-- the formula of a place is that of its part over those of the parts
+abbrev pub IsFormulaOf : FirstOrderParts → ℕ → Part → Type 0
+IsFormulaOf p i x = operand (formulas_in p) i ≡ formula_over p (formulas_in p) x
 
 -- how many marks the ground formula of a formula has over so many constants, at least one
 abbrev pub count_marks : ℕ → FirstOrder → ℕ
@@ -87,7 +103,8 @@ AreCapped counts = All (λ n. n ≤ MOST_MARKS + 1) counts
 -- there are the counts of so many parts' ground formulas
 pub record AreCounted (p : FirstOrderParts) (i : ℕ) (counts : List ℕ) : Type 0 where
   pub each : length counts ≡ i
-  pub counted : (k : ℕ) → k < i → slice_index_or counts k 0 ≡ capped (count_marks (length p.constants) (operand (formulas_in p) k))
+  pub counted : (k : ℕ) → k < i
+      → slice_index_or counts k 0 ≡ capped (count_marks (length p.constants) (operand (formulas_in p) k))
 
 -- whatever signature has these constants and the part's formula as a sentence, the result is that of its ground formula
 abbrev pub IsGroundedPart : FirstOrderParts → ℕ → ℕ → Result (List GroundMark) GroundFault → Type 0

@@ -13,7 +13,7 @@ use Rattle.ps_text.specs.Canonical.{HasNames}
 use Rattle.ps_ground.specs.GroundParts.{marks_of}
 use Rattle.ps_ground.specs.Drafting.{IsShort}
 use Rattle.ps_first_order.specs.FirstOrder.{FirstOrder, IsSentence, Signature, Structure, IsGroundAtom, is_true_in}
-use Rattle.ps_first_order.specs.Texts.{FirstOrderItem, FirstOrderQuestion, sentences_of, questions_of}
+use Rattle.ps_first_order.specs.Texts.{FirstOrderItem, FirstOrderQuestion, IsText, sentences_of, questions_of}
 use Rattle.ps_ground.specs.Grounding.{atom_name, ground_formula, ground_question, ground_problem}
 use Rattle.ps_ground.specs.Structures.{WeightedStructure, IsStructureDistribution, MeetsText, IsModelOfText}
 use Rattle.ps_ground.specs.Structures.{IsAllowed, Bounds, Reaches}
@@ -27,6 +27,10 @@ names_of s items = (ground_problem s items).names
 abbrev pub atoms_of : Signature → List FirstOrderItem → ℕ
 atoms_of s items = length (names_of s items)
 
+-- what holds of each text with its signature
+abbrev pub OfTexts : (Signature → List FirstOrderItem → Type 0) → Type 0
+OfTexts P = (s : Signature) (items : List FirstOrderItem) → IsText s items → P s items
+
 -- different ground atoms have different names
 abbrev pub AtomNamesDiffer : Signature → Type 0
 AtomNamesDiffer s = (p q : Name) (cs ds : List Name) → IsGroundAtom s p cs → IsGroundAtom s q ds
@@ -34,7 +38,8 @@ AtomNamesDiffer s = (p q : Name) (cs ds : List Name) → IsGroundAtom s p cs →
 
 -- the atoms of a sentence's ground formula are names, where none is too long
 abbrev pub GroundAtomsAreNames : Signature → Type 0
-GroundAtomsAreNames s = (f : FirstOrder) → IsSentence s f → All IsShort (marks_of (ground_formula s f)) → HasNames (ground_formula s f)
+GroundAtomsAreNames s = (f : FirstOrder) → IsSentence s f → All IsShort (marks_of (ground_formula s f))
+    → HasNames (ground_formula s f)
 
 -- in the world of a structure each ground atom that has a place has its truth value in the structure
 abbrev pub WorldsHaveTheTruths : Signature → Type 0
@@ -90,7 +95,8 @@ pub record QueryIsKept (s : Signature) (items : List FirstOrderItem) (q : FirstO
   pub bounds : (side : Side) (value : Rational) → Bounds s items q side value
       ↔ over_worlds.Holds (atoms_of s items) (problem.bounds_of (ground_problem s items)) (query_of s items q) side value
   pub reached : (value : Rational) → ((d : List WeightedStructure) × Reaches s items q value d)
-      ↔ ((d : List Entry) × over_worlds.Reaches (atoms_of s items) (problem.bounds_of (ground_problem s items)) (query_of s items q) value d)
+      ↔ ((d : List Entry)
+      × over_worlds.Reaches (atoms_of s items) (problem.bounds_of (ground_problem s items)) (query_of s items q) value d)
 
 -- this is so for each query of the text
 abbrev pub QueriesAreKept : Signature → List FirstOrderItem → Type 0

@@ -6,7 +6,8 @@ ghost use Rattle.ps_first_order.specs.FirstOrder.{constant_of};
 ghost use Rattle.ps_ground.specs.Grounding.{atom_name};
 ghost use Rattle.ps_first_order.specs.Parts.{AreParts, IsArgument, term_of, terms_of};
 ghost use Rattle.ps_ground.specs.GroundParts.{AreNumbers};
-ghost use Rattle.ps_ground.specs.GroundParts.{assignment_in, marks_of, ground_part};
+ghost use Rattle.ps_ground.specs.GroundParts.{assignment_in, marks_of, marks_in, ground_part};
+ghost use Rattle.ps_ground.specs.GroundParts.{constant_in, name_in, IsFormulaOf};
 ghost use Rattle.ps_first_order.specs.Parts.{operand, formulas_in, formula_over, Fits};
 ghost use Rattle.ps_ground.specs.GroundParts.{IsGroundedPart, AreCounted};
 ghost use Rattle.ps_ground.specs.Marks.{joining_mark, joining_marks};
@@ -32,7 +33,7 @@ fn constant_name<'p>(parts: &'p FirstOrderParts, numbers: &[u32], term: Argument
     requires sound { AreParts parts.now }
     requires numbers { AreNumbers parts.now numbers.now }
     requires term { IsArgument parts.now term }
-    ensures { result.now ≡ constant_of (assignment_in parts.now numbers.now) (term_of parts.now term) }
+    ensures { result.now ≡ constant_in parts.now numbers.now (term_of parts.now term) }
 {
     match term {
         Argument::Constant(c) => parts.constants.as_slice()[c as usize].as_slice(),
@@ -56,8 +57,7 @@ fn atom(
     requires predicate { predicate < length parts.now.predicates }
     requires order { start ≤ end }
     requires end { end ≤ length parts.now.arguments }
-    ensures { IfOk result (λ name. name ≡ atom_name (name_at parts.now.predicates predicate)
-        (map (constant_of (assignment_in parts.now numbers.now)) (terms_of parts.now start end))) }
+    ensures { IfOk result (λ name. name ≡ name_in parts.now numbers.now predicate start end) }
 {
     let mut name = List::new(alloc);
     append(
@@ -101,8 +101,7 @@ fn join(
 fn part_at(parts: &FirstOrderParts, i: u32) -> Part
     requires sound { AreParts parts.now }
     requires there { i < length parts.now.parts }
-    ensures formula { operand (formulas_in parts.now) i
-        ≡ formula_over parts.now (formulas_in parts.now) result }
+    ensures formula { IsFormulaOf parts.now i result }
     ensures fits { Fits parts.now i result }
 {
     parts.parts.as_slice()[i as usize]
@@ -120,8 +119,8 @@ fn add_marks(
     requires sound { AreParts parts.now }
     requires there { i < length parts.now.parts }
     requires numbers { AreNumbers parts.now numbers.old.items }
-    ensures marks { OnOk result (marks.new ≡ marks.old
-        ++ marks_of (ground_part parts.now i (assignment_in parts.now numbers.old.items))) }
+    ensures marks { OnOk result
+        (marks.new ≡ marks.old ++ marks_in parts.now i numbers.old.items) }
     ensures numbers { OnOk result (numbers.new.items ≡ numbers.old.items) }
 {
     match part_at(parts, i) {

@@ -1,5 +1,6 @@
 -- Which answers are right, and the first reason against one.
-use Rattle.std.specs.Prelude.{ℕ, suc, ◌≡◌, ◌==◌, ℤ, pos, ◌+ℤ◌, Bool, true, false, if◌then◌else◌, Option, Some, None, Result, Ok, Err, List, [], ◌∷◌, length}
+use Rattle.std.specs.Prelude.{ℕ, suc, ◌≡◌, ◌==◌, ℤ, pos, ◌+ℤ◌, Bool, true, false, if◌then◌else◌, Option, Some, None, Result, Ok}
+use Rattle.std.specs.Prelude.{Err, List, [], ◌∷◌, length}
 use Rattle.std.specs.Ordering.{int_eq}
 use Rattle.ps_pb.specs.Steps.{Step, first_refusal, ends_in_contradiction}
 use Rattle.ps_pb.specs.declared.refused.StepRefused.{StepRefused as Why}
@@ -11,7 +12,8 @@ use Rattle.ps_wcnf.specs.Valued.{form_of, goal_of}
 use Rattle.ps_max_answer.specs.declared.answer.MaxAnswer.{MaxAnswer}
 use Rattle.ps_max_answer.specs.declared.answer.MaxAnswer.TheVariants.{Optimum, Unsatisfiable, Open}
 use Rattle.ps_max_answer.specs.declared.max_error.MaxError.{MaxError}
-use Rattle.ps_max_answer.specs.declared.max_error.MaxError.TheVariants.{WrongShape, HardMissed, CostWrong, StepRefused, NotRefuted, NoMemory}
+use Rattle.ps_max_answer.specs.declared.max_error.MaxError.TheVariants.{WrongShape, HardMissed, CostWrong, StepRefused}
+use Rattle.ps_max_answer.specs.declared.max_error.MaxError.TheVariants.{NotRefuted, NoMemory}
 use Rattle.ps_wcnf.specs.declared.text.WcnfText.{WcnfText}
 
 -- what an answer says is so; an open one says nothing

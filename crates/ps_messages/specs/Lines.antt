@@ -41,9 +41,14 @@ unreadable kind at = line (codes "unreadable: "
 abbrev pub too_long : ℕ → Output
 too_long limit = line (codes "unreadable: more than " ++ decimal limit ++ codes " bytes") Unreadable
 
+-- the commands, and the settings that words may make
+abbrev pub usage_words : List ℕ
+usage_words =
+    codes "usage: psat solve|explain|check|upgrade|maxsat|check-maxsat|make N [--pivots N|enough] [--conflicts N] [--bytes N]"
+
 -- the usage line, for words that spell no command
 abbrev pub usage : Output
-usage = line (codes "usage: psat solve|explain|check|upgrade|maxsat|check-maxsat|make N [--pivots N|enough] [--conflicts N] [--bytes N]") Usage
+usage = line usage_words Usage
 
 -- no weighted clauses are read, since a line is at fault
 abbrev pub unreadable_clauses : WcnfKind → ℕ → Output

@@ -1,7 +1,7 @@
 //! How a refusal is shown.
 ghost use Rattle.std.specs.Prelude.{◌≡◌, IfOk, string_bytes};
 ghost use Rattle.ps_claims.specs.declared.reason.Reason.TheVariants as reasons;
-ghost use Rattle.ps_max_answer.specs.declared.max_error.MaxError.TheVariants as max_reasons;
+ghost use Rattle.ps_max_answer.specs.declared.max_error.MaxError.TheVariants as max;
 ghost use Rattle.ps_messages.specs.Words.{claim_words, kind_words, line_words, reason_words};
 ghost use Rattle.ps_messages.specs.Words.{max_reason_words, wcnf_words, what_words, why_words};
 
@@ -155,7 +155,7 @@ pub fn wcnf_text(kind: WcnfKind) -> &'static str
 #[tactic(auto, unfolding(crate::specs::Words::max_reason_words))]
 fn max_step_text(alloc: Global, step: u64, why: StepRefused) -> Result<String, AllocError>
     ensures { IfOk result
-        (λ text. string_bytes text ≡ max_reason_words (max_reasons.StepRefused step why)) }
+        (λ text. string_bytes text ≡ max_reason_words (max.StepRefused step why)) }
 {
     let why = why_text(alloc, why)?;
     format!(in alloc; "step {step} {why}")

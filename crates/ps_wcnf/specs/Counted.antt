@@ -1,5 +1,6 @@
 -- Numbers that are cut off past every limit, and what words, lines and texts are read as.
-use Rattle.std.specs.Prelude.{ℕ, ◌≡◌, ◌≤◌, ◌<◌, ◌+◌, ◌^◌, min, ℤ, pos, neg_ℤ, ◌<ℤ◌, ◌≤ℤ◌, unsigned_abs, Bool, true, false, if◌then◌else◌, Option, Some, None, Result, Ok, Err, List, [], ◌∷◌, ◌++◌, ◌⊎◌}
+use Rattle.std.specs.Prelude.{ℕ, ◌≡◌, ◌≤◌, ◌<◌, ◌+◌, ◌^◌, min, ℤ, pos, neg_ℤ, ◌<ℤ◌, ◌≤ℤ◌, unsigned_abs, Bool, true, false}
+use Rattle.std.specs.Prelude.{if◌then◌else◌, Option, Some, None, Result, Ok, Err, List, [], ◌∷◌, ◌++◌, ◌⊎◌}
 use Rattle.std.specs.Str.Parse.{digits_value}
 use Rattle.ps_io.specs.declared.no_memory.NoMemory.{NoMemory}
 use Rattle.ps_wcnf.specs.Costs.{Soft as SoftClause}
@@ -7,7 +8,8 @@ use Rattle.ps_wcnf.specs.Limits.{IsText, IsWithin, last_in, weight_sum}
 use Rattle.ps_wcnf.specs.Readings.{with_line, IsAtFault}
 use Rattle.ps_wcnf.specs.declared.wcnf_error.WcnfKind.{WcnfKind}
 use Rattle.ps_wcnf.specs.declared.wcnf_error.WcnfKind.TheVariants.{TooLarge}
-use Rattle.ps_wcnf.specs.Spelling.{is_count, is_literal, literal_of, literals_in, Line, Nothing, Hard, Soft, line_of}
+use Rattle.ps_wcnf.specs.Spelling.{is_count, is_literal, literal_of, literals_in, hard_of, soft_of}
+use Rattle.ps_wcnf.specs.Spelling.{Line, Nothing, Hard, Soft, line_of}
 use Rattle.ps_wcnf.specs.Valued.{is_long}
 use Rattle.ps_wcnf.specs.declared.spelling.Spelled.{Spelled}
 use Rattle.ps_wcnf.specs.declared.spelling.Spelled.TheVariants as word
@@ -78,6 +80,15 @@ IsTold o told.Large = (l : Line) × (o ≡ Some l) × IsLarge l
 IsTold o told.Nothing = o ≡ Some Nothing
 IsTold o (told.Hard ls) = o ≡ Some (Hard ls)
 IsTold o (told.Soft k ls) = (o ≡ Some (Soft k ls)) × (pos 1 ≤ℤ k) × (k ≤ℤ pos (2 ^ 62))
+
+-- whatever words have these literals, they are told as a hard clause
+abbrev pub TellsHard : Ended → Told → Type 0
+TellsHard literals t = (words : List (List ℕ)) → AreEnded words literals → IsTold (hard_of (literals_in words)) t
+
+-- and as a soft clause of a weight, which is known up to the most that is counted
+abbrev pub TellsSoft : ℕ → Ended → Told → Type 0
+TellsSoft weight literals t = (words : List (List ℕ)) (k : ℕ) → AreEnded words literals → weight ≡ min most_count k
+    → IsTold (soft_of (pos k) (literals_in words)) t
 
 -- what is told of a line
 abbrev pub IsLine : List ℕ → Told → Type 0

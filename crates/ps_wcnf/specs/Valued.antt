@@ -1,5 +1,6 @@
 -- Hard clauses and weighted literals that say what hard and soft clauses say.
-use Rattle.std.specs.Prelude.{ℕ, suc, nat_lt, ℤ, pos, ◌+ℤ◌, ◌-ℤ◌, Bool, not, ◌&&◌, if◌then◌else◌, List, [], ◌∷◌, ◌++◌, length, map}
+use Rattle.std.specs.Prelude.{ℕ, suc, nat_lt, ℤ, pos, ◌+ℤ◌, ◌-ℤ◌, Bool, not, ◌&&◌, if◌then◌else◌, List, [], ◌∷◌, ◌++◌, length}
+use Rattle.std.specs.Prelude.{map}
 use Rattle.ps_pb.specs.Constraints.{Constraint}
 use Rattle.ps_pb.specs.Weights.{Weighted, clause_of, constraint_of, true_weight}
 use Rattle.ps_clause.specs.Clauses.{Clause, positive, negative, once, is_tautology, tidy}

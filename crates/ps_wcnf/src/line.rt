@@ -1,8 +1,8 @@
 //! What a line says.
-ghost use Rattle.std.specs.Prelude.{◌≡◌, ◌≤◌, ◌∷◌, [], IfOk, List, ℕ, min, pos};
+ghost use Rattle.std.specs.Prelude.{◌≡◌, ◌≤◌, ◌∷◌, [], IfOk};
 ghost use Rattle.std.specs.Str.{bytes_eq};
-ghost use Rattle.ps_wcnf.specs.Counted.{Takes, AreEnded, IsTold, IsLine, most_count};
-ghost use Rattle.ps_wcnf.specs.Spelling.{is_comment, hard_of, soft_of, literals_in};
+ghost use Rattle.ps_wcnf.specs.Counted.{Takes, TellsHard, TellsSoft, AreEnded, IsLine};
+ghost use Rattle.ps_wcnf.specs.Spelling.{is_comment};
 ghost use Rattle.ps_wcnf.specs.Splitting.{words_of};
 
 use crate::spelling::{Spelled, count, literal};
@@ -100,8 +100,7 @@ fn literals_in(alloc: Global, text: &[u8]) -> Result<Ended, NoMemory>
 
 // A hard clause of the literals.
 fn hard_of(literals: Ended) -> Told
-    ensures { (words : List (List ℕ)) → AreEnded words literals
-        → IsTold (hard_of (literals_in words)) result }
+    ensures { TellsHard literals result }
 {
     match literals {
         Ended::Bad => Told::Bad,
@@ -113,8 +112,7 @@ fn hard_of(literals: Ended) -> Told
 // A soft clause of the literals.
 fn soft_of(weight: u128, literals: Ended) -> Told
     requires { 1 ≤ weight }
-    ensures { (words : List (List ℕ)) (k : ℕ) → AreEnded words literals → weight ≡ min most_count k
-        → IsTold (soft_of (pos k) (literals_in words)) result }
+    ensures { TellsSoft weight literals result }
 {
     match literals {
         Ended::Bad => Told::Bad,
