@@ -3,7 +3,6 @@ pub mod Sequence
 pub mod ShortLines
 -- Texts, told apart
 pub mod Said
-pub mod DueItems
 pub mod ToldAnswers
 pub mod OneLine
 pub mod OneText
@@ -15,5 +14,6 @@ pub mod ValueWords
 pub mod FirstLine
 pub mod Taking
 pub mod Passing
+pub mod Lacking
 pub mod LineTexts
 pub mod WholeTexts

@@ -1,38 +1,23 @@
 -- A line within the limits that says something is what is written of it.
-use Rattle.std.specs.Prelude.{codes, decimal}
+use Rattle.std.specs.Prelude.{codes}
 use Rattle.std.proofs.Common.{◌≡◌, ℕ, ◌≤◌, ◌^◌, ℤ, pos, ◌≤ℤ◌, Bool, List, [], ◌∷◌, ◌++◌, map, All, refl, sym, ap, subst, ◌∙◌, append-nil, arith, unsigned_abs}
-use Rattle.std.specs.Fmt.{signed_decimal}
 use Rattle.std.proofs.lemmas.Int.{ints}
 use Rattle.std.proofs.lemmas.List.Elements.{All-cons, All-nil}
 use Rattle.ps_log.specs.Spellings.{words_of}
-use Rattle.ps_log.specs.Texts.{with_numbers, step_line, goal_line}
+use Rattle.ps_log.specs.Texts.{with_numbers}
 use Rattle.ps_log.proofs.Reading.{Small}
 use Rattle.ps_log.proofs.LineAnswers.{spaced, line-joined, written-line, written-words}
-use Rattle.ps_log.proofs.Spelled.{decimal_of}
 use Rattle.ps_log.proofs.StepAnswers as steps
 use Rattle.ps_log.proofs.GoalAnswers as goals
 use Rattle.ps_answer.proofs.OneItem.{numbers_spelled}
 use Rattle.ps_answer.specs.Words.{Word, Letters, Number, Truths, SpellWords, world_text}
 use Rattle.ps_reader.proofs.StepsAndGoals.{lettered}
 use Rattle.ps_max_text.specs.Items.{IsLine, IsWithin}
-use Rattle.ps_max_text.specs.Texts.{numbered_line, values_line}
+use Rattle.ps_max_text.specs.Texts.{values_line}
 use Rattle.ps_max_text.specs.declared.item.MaxItem.{MaxItem}
 use Rattle.ps_max_text.specs.declared.item.MaxItem.TheVariants as line
+use Rattle.ps_max_text.proofs.Said.{item_line, step_said, goal_said}
 use Rattle.ps_max_text.proofs.StepLines.{step_text, goal_text}
-
--- what is written of a line
-abbrev pub line_text : MaxItem → List ℕ
-line_text line.Head = codes "maxsat 1"
-line_text (line.Optimum c) = numbered_line (codes "optimum") c
-line_text line.Unsatisfiable = codes "unsatisfiable"
-line_text (line.OpenConflicts l n) = with_numbers (codes "open conflicts") (pos l ∷ pos n ∷ [])
-line_text (line.Values w) = values_line w
-line_text (line.LogHead n) = numbered_line (codes "log") (pos n)
-line_text (line.StepLine s) = step_line s
-line_text (line.GoalLine g) = goal_line g
-line_text line.NoBest = codes "best none"
-line_text (line.Best c) = numbered_line (codes "best") c
-line_text line.End = codes "end"
 
 small_one : (z : ℤ) → Small z → All Small (z ∷ [])
 small_one z h = All-cons Small z [] h (All-nil Small)
@@ -79,19 +64,15 @@ values l w (a ∷ b ∷ c ∷ ws) e s = absurd s.1.1
 values l w (a ∷ b ∷ []) e s =
     line-joined l a (b ∷ []) e ∙ ap (λ x. x ++ spaced (b ∷ [])) s.0 ∙ ap (λ x. codes "v" ++ spaced (x ∷ [])) s.1.0 ∙ ap (λ x. codes "v" ++ 32 ∷ x) (append-nil (world_text w))
 
--- the first line has the version 1
-first_version : decimal 1 ≡ 49 ∷ []
-first_version = sym (decimal_of (49 ∷ []) 1 (record { plain = record { digits = (omega arith, (omega arith, tt)); no_leading_zero = λ e. refl }; value = refl }) (omega arith))
-
-pub line_written : (l : List ℕ) (i : MaxItem) → IsLine l i → IsWithin i → l ≡ line_text i
-line_written l line.Head h w = numbers 109 (codes "axsat") l (pos 1 ∷ []) h.words (small_one (pos 1) (omega arith)) ∙ ap (λ d. codes "maxsat" ++ 32 ∷ d) first_version
+pub line_written : (l : List ℕ) (i : MaxItem) → IsLine l i → IsWithin i → l ≡ item_line i
+line_written l line.Head h w = numbers 109 (codes "axsat") l (pos 1 ∷ []) h.words (small_one (pos 1) (omega arith))
 line_written l (line.Optimum c) h w = numbers 111 (codes "ptimum") l (c ∷ []) h.words (small_one c (small_cost c h.proper w))
 line_written l line.Unsatisfiable h w = numbers 117 (codes "nsatisfiable") l [] h.words (All-nil Small)
 line_written l (line.OpenConflicts n m) h w = conflicts l (pos n ∷ pos m ∷ []) h.words (small_two (pos n) (pos m) (small_count n (2 ^ 40) w.0 (omega arith)) (small_count m (2 ^ 41) w.1 (omega arith)))
 line_written l (line.Values v) h w = values l v (words_of l) refl h.words
 line_written l (line.LogHead n) h w = numbers 108 (codes "og") l (pos n ∷ []) h.words (small_one (pos n) (small_count n (2 ^ 41) w (omega arith)))
-line_written l (line.StepLine s) h w = steps.text-is-line l s (step_text l s h) w
-line_written l (line.GoalLine g) h w = goals.text-is-line l g (goal_text l g h) w
+line_written l (line.StepLine s) h w = steps.text-is-line l s (step_text l s h) w ∙ sym (step_said s)
+line_written l (line.GoalLine g) h w = goals.text-is-line l g (goal_text l g h) w ∙ sym (goal_said g)
 line_written l line.NoBest h w = no_best l h.words
 line_written l (line.Best c) h w = numbers 98 (codes "est") l (c ∷ []) h.words (small_one c (small_cost c h.proper w))
 line_written l line.End h w = numbers 101 (codes "nd") l [] h.words (All-nil Small)

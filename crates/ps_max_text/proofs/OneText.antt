@@ -8,7 +8,6 @@ use Rattle.ps_log.specs.Spellings.{words_of}
 use Rattle.ps_log.specs.FirstLines.{IsOneLine, IsFirstLine}
 use Rattle.ps_answer.specs.declared.error.LineKind.{LineKind}
 use Rattle.ps_answer.specs.declared.error.LineKind.TheVariants.{Truncated, BadLine, NotCanonical, TooLarge, MoreAfterEnd}
-use Rattle.ps_answer.specs.ExpectedParts.{and_then}
 use Rattle.ps_answer.specs.Faults.{first_of}
 use Rattle.ps_answer.specs.Words.{Word, Letters, SpellWords}
 use Rattle.ps_answer.proofs.Cuts.{one_cut_at, no_cut_at}
@@ -22,11 +21,14 @@ use Rattle.ps_max_text.specs.Parts.{first_words, behind, at_start, due_behind}
 use Rattle.ps_max_text.specs.Faults.{AreLines, BeginWith, is_begun, IsFault, IsFirstFault}
 use Rattle.ps_max_text.specs.Texts.{max_text, IsMaxWithin}
 use Rattle.ps_max_text.proofs.OneLine.{one_item}
-use Rattle.ps_max_text.proofs.Said.{max_items, items_fit, within_all, text_begins}
-use Rattle.ps_max_text.proofs.DueItems.{max_due}
+use Rattle.ps_max_text.specs.Answered.{max_items}
+use Rattle.ps_max_text.proofs.Said.{items_fit, within_all, text_begins}
+use Rattle.ps_max_text.proofs.Taking.{next_of}
+use Rattle.ps_max_text.proofs.Passing.{max_due}
 use Rattle.ps_max_text.proofs.ToldAnswers.{items_tell}
 
-first_feed : (l : List ℕ) (ls : List (List ℕ)) (rest : List ℕ) → lines_bytes false (l ∷ ls) ++ rest ≡ l ++ 10 ∷ (lines_bytes false ls ++ rest)
+-- a first line and what follows it
+pub first_feed : (l : List ℕ) (ls : List (List ℕ)) (rest : List ℕ) → lines_bytes false (l ∷ ls) ++ rest ≡ l ++ 10 ∷ (lines_bytes false ls ++ rest)
 first_feed l ls rest = append_assoc (l ++ 10 ∷ []) (lines_bytes false ls) rest ∙ append_assoc l (10 ∷ []) (lines_bytes false ls ++ rest)
 
 -- ---- the first word of a line that says something
@@ -59,7 +61,8 @@ opening_due Best (line.Best cost) due next e = refl
 opening_due End line.End due next e = refl
 opening_due p i due next e = absurd (none-some next e)
 
-begun : (p : MaxPart) (i : MaxItem) (due next : List MaxPart) (text : List ℕ) → IsLine text i → behind p i due ≡ Some next → is_begun p text ≡ true
+-- a line of a part begins with a word that is due
+pub begun : (p : MaxPart) (i : MaxItem) (due next : List MaxPart) (text : List ℕ) → IsLine text i → behind p i due ≡ Some next → is_begun p text ≡ true
 begun p i due next text l e =
     ap (λ b. list_any (λ w. bytes_eq b w) (first_words p)) (opening_is (words_of text) i l.words) ∙ opening_due p i due next e
 
@@ -127,19 +130,6 @@ fault_halts : (due : List MaxPart) (rest : List ℕ) (k : LineKind) → IsFault 
 unfolding Halts
 fault_halts [] rest k f = tt
 fault_halts (p ∷ due) rest k f = passes_no_fault p due rest k f
-
--- a line that is due, and what is due behind it
-record IsNext (p : MaxPart) (i : MaxItem) (due : List MaxPart) (is : List MaxItem) (e : List MaxPart) : Type 0 where
-  next : List MaxPart
-  fits : behind p i due ≡ Some next
-  rest : due_behind next is ≡ Some e
-
-next_of : (p : MaxPart) (i : MaxItem) (due : List MaxPart) (is : List MaxItem) (e : List MaxPart) → due_behind (p ∷ due) (i ∷ is) ≡ Some e → IsNext p i due is e
-next_of p i due is e h = by (behind p i due) refl h
-  where
-    by : (r : Option (List MaxPart)) → behind p i due ≡ r → and_then r (λ more. due_behind more is) ≡ Some e → IsNext p i due is e
-    by None b h = absurd (none-some e h)
-    by (Some next) b h = record { next = next; fits = b; rest = h }
 
 -- lines before the first one that doesn't pass are the same
 agree : (us bs : List MaxItem) (ls ms : List (List ℕ)) (x y : List ℕ) (due d e : List MaxPart)

@@ -17,9 +17,9 @@ use Rattle.ps_answer.specs.declared.error.ReportError.{ReportError}
 use Rattle.ps_answer.specs.declared.error.ReportError.TheVariants.{NoMemory}
 use Rattle.ps_max_answer.specs.declared.answer.MaxAnswer.{MaxAnswer}
 use Rattle.ps_max_answer.specs.declared.answer.MaxAnswer.TheVariants as answer
-use Rattle.ps_max_text.specs.Answered.{log_items, best_items, body_items}
+use Rattle.ps_max_text.specs.Answered.{log_items, best_items, body_items, max_items}
 use Rattle.ps_max_text.specs.Items.{IsProper}
-use Rattle.ps_max_text.specs.Parts.{behind, due_behind, many_steps}
+use Rattle.ps_max_text.specs.Parts.{at_start, behind, due_behind, many_steps}
 use Rattle.ps_max_text.specs.Faults.{AreLines, IsLackingLine}
 use Rattle.ps_max_text.specs.Read.{Fits}
 use Rattle.ps_max_text.specs.Taken.{left_in, Takes, IsStopped, IsValueRead, just_steps}
@@ -29,14 +29,14 @@ use Rattle.ps_max_text.specs.declared.part.MaxPart.{MaxPart}
 use Rattle.ps_max_text.specs.declared.part.MaxPart.TheVariants as part
 use Rattle.ps_max_text.specs.declared.lines.Lines.{Lines}
 use Rattle.ps_max_text.proofs.ItemKinds.{cost_kept}
-use Rattle.ps_max_text.proofs.Taking.{Passes, takes_both, due_both, steps_pass, many_then, lack_line, stopped_behind, stopped_more, stopped_after}
+use Rattle.ps_max_text.proofs.Taking.{Passes, both_pass, takes_both, due_both, steps_pass, many_then, stopped_behind}
 
 -- ---- lines that pass
 pub head_passes : Passes (part.Head ∷ []) (line.Head ∷ [])
 unfolding behind
 head_passes due = refl
 
-pub end_passes : Passes (part.End ∷ []) (line.End ∷ [])
+end_passes : Passes (part.End ∷ []) (line.End ∷ [])
 unfolding behind
 end_passes due = refl
 
@@ -63,6 +63,12 @@ body_passes (answer.Optimum cost w ss) due = log_passes ss due
 body_passes (answer.Unsatisfiable ss) due = log_passes ss due
 body_passes (answer.Open limit goal ss best) due =
     due_both (many_steps (length ss) (part.Best ∷ due)) (part.Best ∷ due) (map line.StepLine ss) (best_items best) (steps_pass ss (length ss) 0 (part.Best ∷ due) (omega arith)) ∙ best_passes best due
+
+-- the lines of an answer are due, up to the end
+pub max_due : (a : MaxAnswer) → due_behind at_start (max_items a) ≡ Some []
+max_due a =
+    both_pass (part.Head ∷ []) (part.Answer ∷ part.End ∷ []) (line.Head ∷ []) (body_items a ++ line.End ∷ []) head_passes
+    (both_pass (part.Answer ∷ []) (part.End ∷ []) (body_items a) (line.End ∷ []) (body_passes a) end_passes) []
 
 pub goal_and_steps_pass : (g : Constraint) (ss : List Step) (n : ℕ) → length ss ≡ n → Passes (part.Goal ∷ just_steps n) (line.GoalLine g ∷ map line.StepLine ss)
 unfolding behind
@@ -145,29 +151,6 @@ pub best_kept : (a b : Lines) (c : ℤ) → Takes a b (line.Best c ∷ []) → t
 best_kept a b c t = cost_kept c (first_proper t.before.lines (line.Best c) t.before.say) t.within.0
 
 -- ---- steps
-first_letters : (ws : List (List ℕ)) (v : List ℕ) (vs : List Word) → SpellWords ws (Letters v ∷ vs) → first_of ws ≡ v
-first_letters [] v vs s = absurd s
-first_letters (w ∷ ws) v vs s = s.0
-
-first_line : (bytes l rest : List ℕ) → bytes ≡ lines_bytes false (l ∷ []) ++ rest → IsOneLine l → IsFirstLine bytes l rest
-first_line bytes l rest e w = record { is = e ∙ (ap (λ x. x ++ rest) (append-nil (l ++ 10 ∷ [])) ∙ append_assoc l (10 ∷ []) rest); whole = w }
-
--- a step's line begins with its letter
-step_begins : (bytes rest : List ℕ) (s : Step) (ls : List (List ℕ)) → bytes ≡ lines_bytes false ls ++ rest → AllByRecursion IsOneLine ls → AreLines ls (line.StepLine s ∷ []) → IsLackingLine part.Step bytes
-step_begins bytes rest s [] e w h = absurd h
-step_begins bytes rest s (l ∷ k ∷ ls) e w h = absurd h.1
-step_begins bytes rest s (l ∷ []) e w h = record {
-  line = l;
-  rest = rest;
-  first = first_line bytes l rest e w.0;
-  begun = ap (λ b. b || false) ((bytes_eq-Decides (first_of (words_of l)) (codes "s")).1 (first_letters (words_of l) (codes "s") (map Number (step_numbers s.id s.lits s.hints)) h.0.words));
-  takes = tt;
-}
-
--- for a step that was taken memory may lack
-pub lack_step : (a b : Lines) (s : Step) → Takes a b (line.StepLine s ∷ []) → IsStopped a (part.Step ∷ []) NoMemory
-lack_step a b s t = lack_line a part.Step (step_begins (left_in a) (left_in b) s t.before.lines t.before.are t.before.whole t.before.say)
-
 pub one_longer : {X : Type 0} (xs ys : List X) (x : X) (n : ℕ) → ys ≡ xs ++ x ∷ [] → length xs ≡ n → length ys ≡ n + 1
 one_longer xs ys x n e h = omega (arith, ap length e, length-append xs (x ∷ []), h)
 

@@ -24,25 +24,10 @@ use Rattle.ps_max_answer.specs.declared.answer.MaxAnswer.{MaxAnswer}
 use Rattle.ps_max_answer.specs.declared.answer.MaxAnswer.TheVariants as answer
 use Rattle.ps_max_text.specs.declared.item.MaxItem.{MaxItem}
 use Rattle.ps_max_text.specs.declared.item.MaxItem.TheVariants.{Head, Optimum, Unsatisfiable, OpenConflicts, Values, LogHead, StepLine, GoalLine, NoBest, Best, End}
+use Rattle.ps_max_text.specs.Answered.{log_items, best_items, body_items, max_items}
 use Rattle.ps_max_text.specs.Items.{item_words, IsProper, IsWithin, IsLine}
 use Rattle.ps_max_text.specs.Faults.{AreLines, BeginWith}
 use Rattle.ps_max_text.specs.Texts.{best_lines, open_lines, log_lines, body_lines, max_lines, max_text, IsCost, IsCosted, AreStepsWithin, IsMaxWithin}
-
--- what the lines of an answer say
-abbrev pub log_items : List Step → List MaxItem
-log_items steps = LogHead (length steps) ∷ map StepLine steps
-
-abbrev pub best_items : Option (ℤ × List Bool) → List MaxItem
-best_items None = NoBest ∷ []
-best_items (Some best) = Best best.0 ∷ Values best.1 ∷ []
-
-abbrev pub body_items : MaxAnswer → List MaxItem
-body_items (answer.Optimum c w steps) = Optimum c ∷ Values w ∷ log_items steps
-body_items (answer.Unsatisfiable steps) = Unsatisfiable ∷ log_items steps
-body_items (answer.Open limit goal steps best) = OpenConflicts limit (length steps) ∷ GoalLine goal ∷ (map StepLine steps ++ best_items best)
-
-abbrev pub max_items : MaxAnswer → List MaxItem
-max_items a = Head ∷ (body_items a ++ End ∷ [])
 
 -- ---- they are the lines that are written
 abbrev pub item_line : MaxItem → List ℕ
@@ -51,10 +36,10 @@ item_line i = joined (item_words i)
 head_said : item_line Head ≡ codes "maxsat 1"
 head_said = let one : decimal 1 ≡ 49 ∷ [] = decimal_digit 1 (omega arith) in ap (λ (ds : List ℕ). codes "maxsat" ++ 32 ∷ ds) one
 
-step_said : (s : Step) → item_line (StepLine s) ≡ step_line s
+pub step_said : (s : Step) → item_line (StepLine s) ≡ step_line s
 step_said s = unfold step_line in number_words (115 ∷ []) (step_numbers s.id s.lits s.hints)
 
-goal_said : (g : Constraint) → item_line (GoalLine g) ≡ goal_line g
+pub goal_said : (g : Constraint) → item_line (GoalLine g) ≡ goal_line g
 goal_said g = unfold goal_line in number_words (103 ∷ []) (goal_numbers g.degree (weighted g.terms))
 
 steps_said : (steps : List Step) → map item_line (map StepLine steps) ≡ map step_line steps

@@ -15,7 +15,7 @@ use Rattle.ps_max_text.specs.Items.{IsWithin}
 use Rattle.ps_max_text.specs.Parts.{behind, due_behind, many_steps}
 use Rattle.ps_max_text.specs.Faults.{AreLines, BeginWith, IsFault, IsLackingLine, LacksAt}
 use Rattle.ps_max_text.specs.Lines.{TakesLine}
-use Rattle.ps_max_text.specs.Taken.{left_in, Takes, FaultAt, IsStopped, IsValueRead, IsRestRead, IsMore, just_steps}
+use Rattle.ps_max_text.specs.Taken.{left_in, Takes, FaultAt, IsStopped, IsValueRead, IsRestRead, IsMore, just_steps, parts_behind}
 use Rattle.ps_max_text.specs.declared.item.MaxItem.{MaxItem}
 use Rattle.ps_max_text.specs.declared.item.MaxItem.TheVariants as line
 use Rattle.ps_max_text.specs.declared.part.MaxPart.{MaxPart}
@@ -37,12 +37,12 @@ begin_both bytes mid rest is js b c = record {
 }
 
 -- a first line that passes, and what is due behind it
-record IsNext (p : MaxPart) (i : MaxItem) (due : List MaxPart) (is : List MaxItem) (e : List MaxPart) : Type 0 where
-  next : List MaxPart
-  fits : behind p i due ≡ Some next
-  rest : due_behind next is ≡ Some e
+pub record IsNext (p : MaxPart) (i : MaxItem) (due : List MaxPart) (is : List MaxItem) (e : List MaxPart) : Type 0 where
+  pub next : List MaxPart
+  pub fits : behind p i due ≡ Some next
+  pub rest : due_behind next is ≡ Some e
 
-next_of : (p : MaxPart) (i : MaxItem) (due : List MaxPart) (is : List MaxItem) (e : List MaxPart) → due_behind (p ∷ due) (i ∷ is) ≡ Some e → IsNext p i due is e
+pub next_of : (p : MaxPart) (i : MaxItem) (due : List MaxPart) (is : List MaxItem) (e : List MaxPart) → due_behind (p ∷ due) (i ∷ is) ≡ Some e → IsNext p i due is e
 next_of p i due is e h = by (behind p i due) refl h
   where
     by : (r : Option (List MaxPart)) → behind p i due ≡ r → and_then r (λ more. due_behind more is) ≡ Some e → IsNext p i due is e
@@ -174,17 +174,17 @@ pub stopped_behind : (a b : Lines) (i : MaxItem) (p : MaxPart) (more : List MaxP
 stopped_behind a b i p more e t h s = stopped_later a b (i ∷ []) (p ∷ []) more e t (λ due. ap (λ r. and_then r (λ m. due_behind m [])) (h due)) s
 
 -- a first line, and the rest of its value
-pub value_read : {X : Type 0} (items_of : X → List MaxItem) (a b c : Lines) (i : MaxItem) (p : MaxPart) (parts : List MaxPart) (r : Result X ReportError)
-    → Takes a b (i ∷ []) → ((due : List MaxPart) → behind p i due ≡ Some (parts ++ due)) → IsRestRead items_of i parts b c r → IsValueRead items_of (p ∷ []) a c r
-value_read items_of a b c i p parts (Ok x) t h k = subst (λ l. Takes a c l) (sym k.1) (takes_both a b c (i ∷ []) k.0 t k.2)
-value_read items_of a b c i p parts (Err e) t h k = stopped_behind a b i p parts e t h k
+pub value_read : {X : Type 0} (items_of : X → List MaxItem) (a b c : Lines) (i : MaxItem) (p : MaxPart) (r : Result X ReportError)
+    → Takes a b (i ∷ []) → ((due : List MaxPart) → behind p i due ≡ Some (parts_behind i ++ due)) → IsRestRead items_of i b c r → IsValueRead items_of (p ∷ []) a c r
+value_read items_of a b c i p (Ok x) t h k = subst (λ l. Takes a c l) (sym k.1) (takes_both a b c (i ∷ []) k.0 t k.2)
+value_read items_of a b c i p (Err e) t h k = stopped_behind a b i p (parts_behind i) e t h k
 
 -- nothing is read where lines are at fault
 pub value_stopped : {X : Type 0} (f : X → List MaxItem) (parts : List MaxPart) (a b : Lines) (e : ReportError) (r : Result X ReportError) → IsStopped a parts e → r ≡ Err e → IsValueRead f parts a b r
 value_stopped f parts a b e r s h = subst (λ q. IsValueRead f parts a b q) (sym h) s
 
-pub rest_stopped : {X : Type 0} (f : X → List MaxItem) (i : MaxItem) (parts : List MaxPart) (a b : Lines) (e : ReportError) (r : Result X ReportError) → IsStopped a parts e → r ≡ Err e → IsRestRead f i parts a b r
-rest_stopped f i parts a b e r s h = subst (λ q. IsRestRead f i parts a b q) (sym h) s
+pub rest_stopped : {X : Type 0} (f : X → List MaxItem) (i : MaxItem) (a b : Lines) (e : ReportError) (r : Result X ReportError) → IsStopped a (parts_behind i) e → r ≡ Err e → IsRestRead f i a b r
+rest_stopped f i a b e r s h = subst (λ q. IsRestRead f i a b q) (sym h) s
 
 -- where these parts are due, and then any others, the lines are due, and then the others
 abbrev pub Passes : List MaxPart → List MaxItem → Type 0

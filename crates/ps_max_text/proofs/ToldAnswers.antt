@@ -6,7 +6,7 @@ use Rattle.ps_max_answer.specs.declared.answer.MaxAnswer.{MaxAnswer}
 use Rattle.ps_max_answer.specs.declared.answer.MaxAnswer.TheVariants as answer
 use Rattle.ps_max_text.specs.declared.item.MaxItem.{MaxItem}
 use Rattle.ps_max_text.specs.declared.item.MaxItem.TheVariants.{Head, Optimum, Unsatisfiable, OpenConflicts, Values, LogHead, StepLine, GoalLine, NoBest, Best, End}
-use Rattle.ps_max_text.proofs.Said.{log_items, best_items, body_items, max_items}
+use Rattle.ps_max_text.specs.Answered.{log_items, best_items, body_items, max_items}
 
 -- what kind of line comes first
 kind_of : MaxItem → ℕ

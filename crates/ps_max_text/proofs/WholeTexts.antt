@@ -3,16 +3,15 @@ use Rattle.std.proofs.Common.{◌≡◌, ℕ, ◌+◌, ◌≤◌, ℤ, Bool, fal
 use Rattle.std.specs.List.{AllByRecursion}
 use Rattle.ps_io.specs.LineText.{lines_bytes}
 use Rattle.ps_log.specs.Limits.{IsStepWithin}
-use Rattle.ps_log.specs.Texts.{step_line}
 use Rattle.ps_pb.specs.Steps.{Step}
 use Rattle.ps_answer.specs.declared.error.LineKind.{LineKind}
 use Rattle.ps_answer.specs.declared.error.ReportError.{ReportError}
 use Rattle.ps_answer.specs.declared.error.ReportError.TheVariants.{At, NoMemory}
 use Rattle.ps_max_answer.specs.declared.answer.MaxAnswer.{MaxAnswer}
 use Rattle.ps_max_answer.specs.declared.answer.MaxAnswer.TheVariants as answer
-use Rattle.ps_max_text.specs.Items.{IsProper, IsWithin}
+use Rattle.ps_max_text.specs.Items.{IsWithin}
 use Rattle.ps_max_text.specs.Parts.{at_start}
-use Rattle.ps_max_text.specs.Texts.{best_lines, log_lines, body_lines, max_lines, max_text, AreStepsWithin, IsCosted, IsMaxWithin}
+use Rattle.ps_max_text.specs.Texts.{AreStepsWithin, IsCosted, IsMaxWithin}
 use Rattle.ps_max_text.specs.Faults.{AreLines, BeginWith, IsFirstFault, LacksAt, IsMaxRead}
 use Rattle.ps_max_text.specs.Taken.{left_in, Takes, FaultAt, IsStopped, IsMore}
 use Rattle.ps_max_text.specs.Answered.{log_items, best_items, body_items, max_items}
@@ -20,9 +19,10 @@ use Rattle.ps_max_text.specs.declared.item.MaxItem.{MaxItem}
 use Rattle.ps_max_text.specs.declared.item.MaxItem.TheVariants as line
 use Rattle.ps_max_text.specs.declared.part.MaxPart.TheVariants as part
 use Rattle.ps_max_text.specs.declared.lines.Lines.{Lines}
-use Rattle.ps_max_text.proofs.LineTexts.{line_text, line_written}
-use Rattle.ps_max_text.proofs.Taking.{Passes, takes_both, both_pass, fault_later, stopped_later, stopped_after, stopped_more}
-use Rattle.ps_max_text.proofs.Passing.{head_passes, body_passes, end_passes}
+use Rattle.ps_max_text.proofs.Said.{item_line, lines_said, IsFit}
+use Rattle.ps_max_text.proofs.LineTexts.{line_written}
+use Rattle.ps_max_text.proofs.Taking.{takes_both, both_pass, fault_later, stopped_after, stopped_more}
+use Rattle.ps_max_text.proofs.Passing.{head_passes, body_passes, max_due}
 
 -- ---- the pieces of an answer
 pub no_body : (a b : Lines) (e : ReportError) → Takes a b (line.Head ∷ []) → IsStopped b (part.Answer ∷ []) e → IsStopped a at_start e
@@ -34,14 +34,7 @@ no_end a b c x e t u s =
     (both_pass (part.Head ∷ []) (part.Answer ∷ []) (line.Head ∷ []) (body_items x) head_passes (body_passes x)) s
 
 pub all_taken : (a b c d : Lines) (x : MaxAnswer) → Takes a b (line.Head ∷ []) → Takes b c (body_items x) → Takes c d (line.End ∷ []) → Takes a d (max_items x)
-unfolding max_items
 all_taken a b c d x t u v = takes_both a b d (line.Head ∷ []) (body_items x ++ line.End ∷ []) t (takes_both b c d (body_items x) (line.End ∷ []) u v)
-
-all_pass : (x : MaxAnswer) → Passes at_start (max_items x)
-unfolding max_items
-all_pass x =
-    both_pass (part.Head ∷ []) (part.Answer ∷ part.End ∷ []) (line.Head ∷ []) (body_items x ++ line.End ∷ []) head_passes
-    (both_pass (part.Answer ∷ []) (part.End ∷ []) (body_items x) (line.End ∷ []) (body_passes x) end_passes)
 
 -- ---- what is told of faults
 first_fault : (bytes : List ℕ) (a : Lines) (kind : LineKind) (number : ℕ) → left_in a ≡ bytes → a.taken ≡ 0 → FaultAt a at_start kind number → IsFirstFault bytes kind number
@@ -61,88 +54,57 @@ fault_told bytes a (At kind number) l z s = first_fault bytes a kind number l z 
 fault_told bytes a NoMemory l z s = subst (λ b. LacksAt at_start b) l (s [])
 
 pub more_told : (bytes : List ℕ) (a b : Lines) (x : MaxAnswer) (e : ReportError) → left_in a ≡ bytes → a.taken ≡ 0 → Takes a b (max_items x) → IsMore b e → IsMaxRead bytes (Err e)
-more_told bytes a b x (At kind number) l z t s = first_fault bytes a kind number l z (fault_later a b (max_items x) at_start [] kind number t (all_pass x []) s)
+more_told bytes a b x (At kind number) l z t s = first_fault bytes a kind number l z (fault_later a b (max_items x) at_start [] kind number t (max_due x) s)
 more_told bytes a b x NoMemory l z t s = absurd s
 
 -- ---- what is told of an answer
 -- lines that say these things are what is written of them
-lines_are : (ls : List (List ℕ)) (is : List MaxItem) → AreLines ls is → AllByRecursion IsWithin is → ls ≡ map line_text is
+lines_are : (ls : List (List ℕ)) (is : List MaxItem) → AreLines ls is → AllByRecursion IsWithin is → ls ≡ map item_line is
 lines_are [] [] h w = refl
 lines_are [] (i ∷ is) h w = absurd h
 lines_are (l ∷ ls) [] h w = absurd h
-lines_are (l ∷ ls) (i ∷ is) h w = ap (λ x. x ∷ ls) (line_written l i h.0 w.0) ∙ ap (λ x. line_text i ∷ x) (lines_are ls is h.1 w.1)
-
-map_both : (is js : List MaxItem) → map line_text (is ++ js) ≡ map line_text is ++ map line_text js
-map_both [] js = refl
-map_both (i ∷ is) js = ap (λ x. line_text i ∷ x) (map_both is js)
-
-step_texts : (ss : List Step) → map line_text (map line.StepLine ss) ≡ map step_line ss
-step_texts [] = refl
-step_texts (s ∷ ss) = ap (λ x. step_line s ∷ x) (step_texts ss)
-
-log_texts : (ss : List Step) → map line_text (log_items ss) ≡ log_lines ss
-log_texts ss = ap (λ x. line_text (line.LogHead (length ss)) ∷ x) (step_texts ss)
-
-best_texts : (o : Option (ℤ × List Bool)) → map line_text (best_items o) ≡ best_lines o
-best_texts None = refl
-best_texts (Some best) = refl
-
-body_texts : (x : MaxAnswer) → map line_text (body_items x) ≡ body_lines x
-body_texts (answer.Optimum c w ss) = ap (λ x. line_text (line.Optimum c) ∷ line_text (line.Values w) ∷ x) (log_texts ss)
-body_texts (answer.Unsatisfiable ss) = ap (λ x. line_text line.Unsatisfiable ∷ x) (log_texts ss)
-body_texts (answer.Open limit goal ss best) =
-    ap (λ x. line_text (line.OpenConflicts limit (length ss)) ∷ line_text (line.GoalLine goal) ∷ x)
-    (map_both (map line.StepLine ss) (best_items best) ∙ ap (λ x. x ++ map line_text (best_items best)) (step_texts ss) ∙ ap (λ x. map step_line ss ++ x) (best_texts best))
-
-max_texts : (x : MaxAnswer) → map line_text (max_items x) ≡ max_lines x
-unfolding max_items max_lines
-max_texts x = ap (λ l. line_text line.Head ∷ l) (map_both (body_items x) (line.End ∷ []) ∙ ap (λ l. l ++ line_text line.End ∷ []) (body_texts x))
+lines_are (l ∷ ls) (i ∷ is) h w = ap (λ x. x ∷ ls) (line_written l i h.0 w.0) ∙ ap (λ x. item_line i ∷ x) (lines_are ls is h.1 w.1)
 
 -- lines within the limits are those of an answer within the limits
-abbrev IsGood : MaxItem → Type 0
-IsGood i = IsProper i × IsWithin i
+fit_lines : (ls : List (List ℕ)) (is : List MaxItem) → AreLines ls is → AllByRecursion IsWithin is → AllByRecursion IsFit is
+fit_lines [] [] h w = tt
+fit_lines [] (i ∷ is) h w = absurd h
+fit_lines (l ∷ ls) [] h w = absurd h
+fit_lines (l ∷ ls) (i ∷ is) h w = ((h.0.proper, w.0), fit_lines ls is h.1 w.1)
 
-good_lines : (ls : List (List ℕ)) (is : List MaxItem) → AreLines ls is → AllByRecursion IsWithin is → AllByRecursion IsGood is
-good_lines [] [] h w = tt
-good_lines [] (i ∷ is) h w = absurd h
-good_lines (l ∷ ls) [] h w = absurd h
-good_lines (l ∷ ls) (i ∷ is) h w = ((h.0.proper, w.0), good_lines ls is h.1 w.1)
-
-all_front : (is js : List MaxItem) → AllByRecursion IsGood (is ++ js) → AllByRecursion IsGood is
+all_front : (is js : List MaxItem) → AllByRecursion IsFit (is ++ js) → AllByRecursion IsFit is
 all_front [] js h = tt
 all_front (i ∷ is) js h = (h.0, all_front is js h.1)
 
-all_back : (is js : List MaxItem) → AllByRecursion IsGood (is ++ js) → AllByRecursion IsGood js
+all_back : (is js : List MaxItem) → AllByRecursion IsFit (is ++ js) → AllByRecursion IsFit js
 all_back [] js h = h
 all_back (i ∷ is) js h = all_back is js h.1
 
-steps_within : (ss : List Step) → AllByRecursion IsGood (map line.StepLine ss) → AllByRecursion IsStepWithin ss
+steps_within : (ss : List Step) → AllByRecursion IsFit (map line.StepLine ss) → AllByRecursion IsStepWithin ss
 steps_within [] h = tt
 steps_within (s ∷ ss) h = (h.0.1, steps_within ss h.1)
 
-log_within : (ss : List Step) → AllByRecursion IsGood (log_items ss) → AreStepsWithin ss
+log_within : (ss : List Step) → AllByRecursion IsFit (log_items ss) → AreStepsWithin ss
 log_within ss h = record { few = h.0.1; each = steps_within ss h.1 }
 
-costed : (c : ℤ) (w : List Bool) (cost : IsGood (line.Optimum c)) → IsGood (line.Values w) → IsCosted c w
+costed : (c : ℤ) (w : List Bool) (cost : IsFit (line.Optimum c)) → IsFit (line.Values w) → IsCosted c w
 costed c w h k = record { cost = record { some = h.0; most = h.1 }; values = k.1 }
 
-best_within : (o : Option (ℤ × List Bool)) → AllByRecursion IsGood (best_items o) → IfSome o (λ b. IsCosted b.0 b.1)
+best_within : (o : Option (ℤ × List Bool)) → AllByRecursion IsFit (best_items o) → IfSome o (λ b. IsCosted b.0 b.1)
 best_within None h = tt
 best_within (Some best) h = costed best.0 best.1 h.0 h.1.0
 
-body_within : (x : MaxAnswer) → AllByRecursion IsGood (body_items x) → IsMaxWithin x
+body_within : (x : MaxAnswer) → AllByRecursion IsFit (body_items x) → IsMaxWithin x
 body_within (answer.Optimum c w ss) h = (costed c w h.0 h.1.0, log_within ss h.1.1)
 body_within (answer.Unsatisfiable ss) h = log_within ss h.1
 body_within (answer.Open limit goal ss best) h =
     (h.0.1.0, h.1.0.1, record { few = h.0.1.1; each = steps_within ss (all_front (map line.StepLine ss) (best_items best) h.1.1) }, best_within best (all_back (map line.StepLine ss) (best_items best) h.1.1))
 
-max_within : (x : MaxAnswer) → AllByRecursion IsGood (max_items x) → IsMaxWithin x
-unfolding max_items
+max_within : (x : MaxAnswer) → AllByRecursion IsFit (max_items x) → IsMaxWithin x
 max_within x h = body_within x (all_front (body_items x) (line.End ∷ []) h.1)
 
 pub answer_told : (bytes : List ℕ) (a b : Lines) (x : MaxAnswer) → left_in a ≡ bytes → Takes a b (max_items x) → left_in b ≡ [] → IsMaxRead bytes (Ok x)
-answer_told bytes a b x l t e =
-    (
-      sym l ∙ t.before.are ∙ ap (λ r. lines_bytes false t.before.lines ++ r) e ∙ append-nil (lines_bytes false t.before.lines) ∙ ap (lines_bytes false) (lines_are t.before.lines (max_items x) t.before.say t.within ∙ max_texts x),
-      max_within x (good_lines t.before.lines (max_items x) t.before.say t.within)
-    )
+answer_told bytes a b x l t e = (
+  sym l ∙ t.before.are ∙ ap (λ r. lines_bytes false t.before.lines ++ r) e ∙ append-nil (lines_bytes false t.before.lines) ∙ ap (lines_bytes false) (lines_are t.before.lines (max_items x) t.before.say t.within ∙ lines_said x),
+  max_within x (fit_lines t.before.lines (max_items x) t.before.say t.within),
+)

@@ -24,5 +24,5 @@ body_items (answer.Open limit goal steps best) =
     line.OpenConflicts limit (length steps) ∷ line.GoalLine goal ∷ map line.StepLine steps ++ best_items best
 
 -- the lines of an answer
-unfoldable pub max_items : MaxAnswer → List MaxItem
+abbrev pub max_items : MaxAnswer → List MaxItem
 max_items a = line.Head ∷ body_items a ++ line.End ∷ []

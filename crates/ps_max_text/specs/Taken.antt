@@ -8,7 +8,9 @@ use Rattle.ps_max_text.specs.Items.{IsWithin}
 use Rattle.ps_max_text.specs.Parts.{many_steps, due_behind}
 use Rattle.ps_max_text.specs.Faults.{BeginWith, IsFault, LacksAt}
 use Rattle.ps_max_text.specs.declared.item.MaxItem.{MaxItem}
+use Rattle.ps_max_text.specs.declared.item.MaxItem.TheVariants as item
 use Rattle.ps_max_text.specs.declared.part.MaxPart.{MaxPart}
+use Rattle.ps_max_text.specs.declared.part.MaxPart.TheVariants as part
 use Rattle.ps_max_text.specs.declared.lines.Lines.{Lines}
 
 -- the bytes that are left
@@ -46,16 +48,24 @@ IsValueRead items_of parts old new (Err e) = IsStopped old parts e
 abbrev pub IsLineRead : {X : Type 0} → (X → MaxItem) → MaxPart → Lines → Lines → Result X ReportError → Type 0
 IsLineRead item_of p old new result = IsValueRead (λ x. item_of x ∷ []) (p ∷ []) old new result
 
--- the rest of a value is read, whose first line says this and whose other lines are of these parts, or one of them is at fault
-abbrev pub IsRestRead : {X : Type 0} → (X → List MaxItem) → MaxItem → List MaxPart → Lines → Lines → Result X ReportError → Type 0
-IsRestRead items_of i parts old new (Ok x) = (more : List MaxItem) × (items_of x ≡ i ∷ more) × Takes old new more
-IsRestRead items_of i parts old new (Err e) = IsStopped old parts e
+-- so many steps, and nothing else
+abbrev pub just_steps : ℕ → List MaxPart
+just_steps n = many_steps n []
+
+-- the parts behind a line that begins an answer, or the best assignment so far
+abbrev pub parts_behind : MaxItem → List MaxPart
+parts_behind (item.Optimum cost) = part.Values ∷ part.Log ∷ []
+parts_behind item.Unsatisfiable = part.Log ∷ []
+parts_behind (item.OpenConflicts limit n) = part.Goal ∷ just_steps n ++ part.Best ∷ []
+parts_behind (item.Best cost) = part.Values ∷ []
+parts_behind i = []
+
+-- the rest of a value is read, whose first line says this, or one of its parts is at fault
+abbrev pub IsRestRead : {X : Type 0} → (X → List MaxItem) → MaxItem → Lines → Lines → Result X ReportError → Type 0
+IsRestRead items_of i old new (Ok x) = (more : List MaxItem) × (items_of x ≡ i ∷ more) × Takes old new more
+IsRestRead items_of i old new (Err e) = IsStopped old (parts_behind i) e
 
 -- something is left behind the end
 abbrev pub IsMore : Lines → ReportError → Type 0
 IsMore l (At kind line) = FaultAt l [] kind line
 IsMore l NoMemory = ⊥
-
--- so many steps, and nothing else
-abbrev pub just_steps : ℕ → List MaxPart
-just_steps n = many_steps n []

@@ -7,9 +7,9 @@ pub fn answers_are_short()
     ensures { AnswersAreShort }
 {}
 
-/// What is written of an answer within the limits is read as that answer: no other within the limits
-/// has its text, and no line of it is at fault. Other bytes have at most one first line at fault, of
-/// one kind.
+/// What is written of an answer within the limits is read as that answer: no other within the
+/// limits has its text, and no line of it is at fault. Other bytes have at most one first line at
+/// fault, of one kind.
 pub fn texts_are_read_back()
     ensures answer { TextsDetermineAnswers }
     ensures none { TextsHaveNoFault }

@@ -1,8 +1,8 @@
 //! Answers that are read.
-ghost use Rattle.std.specs.Prelude.{◌≡◌, ◌∷◌, ◌++◌, [], map, length, IfOk};
+ghost use Rattle.std.specs.Prelude.{◌≡◌, ◌∷◌, [], map, length, IfOk};
 ghost use Rattle.ps_max_text.specs.Answered.{max_items, body_items, best_items, log_items};
 ghost use Rattle.ps_max_text.specs.Faults.{IsMaxRead};
-ghost use Rattle.ps_max_text.specs.Parts.{at_start, many_steps};
+ghost use Rattle.ps_max_text.specs.Parts.{at_start};
 ghost use Rattle.ps_max_text.specs.Taken.{IsLineRead, IsValueRead, IsRestRead, just_steps};
 ghost use Rattle.ps_max_text.specs.declared.item.MaxItem.TheVariants as line;
 ghost use Rattle.ps_max_text.specs.declared.part.MaxPart.TheVariants as part;
@@ -50,8 +50,7 @@ fn body(lines: &mut Lines<'_>) -> Result<MaxAnswer, ReportError>
 }
 
 fn optimum(lines: &mut Lines<'_>, cost: i128) -> Result<MaxAnswer, ReportError>
-    ensures { IsRestRead body_items (line.Optimum cost) (part.Values ∷ part.Log ∷ [])
-        lines.old lines.new result }
+    ensures { IsRestRead body_items (line.Optimum cost) lines.old lines.new result }
 {
     let assignment = values(lines)?;
     let steps = log(lines)?;
@@ -63,15 +62,14 @@ fn optimum(lines: &mut Lines<'_>, cost: i128) -> Result<MaxAnswer, ReportError>
 }
 
 fn unsatisfiable(lines: &mut Lines<'_>) -> Result<MaxAnswer, ReportError>
-    ensures { IsRestRead body_items line.Unsatisfiable (part.Log ∷ []) lines.old lines.new result }
+    ensures { IsRestRead body_items line.Unsatisfiable lines.old lines.new result }
 {
     let steps = log(lines)?;
     Ok(MaxAnswer::Unsatisfiable { steps })
 }
 
 fn open(lines: &mut Lines<'_>, limit: u64, count: u64) -> Result<MaxAnswer, ReportError>
-    ensures { IsRestRead body_items (line.OpenConflicts limit count)
-        (part.Goal ∷ just_steps count ++ part.Best ∷ []) lines.old lines.new result }
+    ensures { IsRestRead body_items (line.OpenConflicts limit count) lines.old lines.new result }
 {
     let goal = goal(lines)?;
     let steps = steps(lines, count)?;
@@ -105,8 +103,7 @@ fn best(lines: &mut Lines<'_>) -> Result<Option<(i128, World)>, ReportError>
 
 // The assignment of this cost.
 fn best_of(lines: &mut Lines<'_>, cost: i128) -> Result<Option<(i128, World)>, ReportError>
-    ensures { IsRestRead best_items (line.Best cost) (part.Values ∷ []) lines.old lines.new
-        result }
+    ensures { IsRestRead best_items (line.Best cost) lines.old lines.new result }
 {
     let assignment = values(lines)?;
     Ok(Some((cost, assignment)))

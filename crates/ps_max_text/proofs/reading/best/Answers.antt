@@ -14,5 +14,5 @@ unreachable-requires c = only_best c.in_ok-take.field-0 c.in_ok-take.ensures.fit
 pub returns-in-Best : goal.returns-in-Best
 returns-in-Best c =
     let t = subst (λ i. Takes c.args.lines.now c.take.new.self (i ∷ [])) c.in-Best.is c.in_ok-take.ensures.line in
-    value_read best_items c.args.lines.now c.take.new.self c.best_of.new.lines (line.Best c.in-Best.cost) part.Best (part.Values ∷ []) c.best_of.result t (best_next c.in-Best.cost)
-    (subst (λ z. IsRestRead best_items (line.Best z) (part.Values ∷ []) c.take.new.self c.best_of.new.lines c.best_of.result) (best_kept c.args.lines.now c.take.new.self c.in-Best.cost t) c.best_of.ensures)
+    value_read best_items c.args.lines.now c.take.new.self c.best_of.new.lines (line.Best c.in-Best.cost) part.Best c.best_of.result t (best_next c.in-Best.cost)
+    (subst (λ z. IsRestRead best_items (line.Best z) c.take.new.self c.best_of.new.lines c.best_of.result) (best_kept c.args.lines.now c.take.new.self c.in-Best.cost t) c.best_of.ensures)

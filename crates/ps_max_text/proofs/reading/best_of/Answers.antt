@@ -12,11 +12,12 @@ use Rattle.ps_max_text.proofs.reading.best_of.Goals as goal
 pub returns-in_err-assignment : goal.returns-in_err-assignment
 returns-in_err-assignment c =
     let f = err_from_is_err_and c.from_residual.result c.from_residual.ensures.1 in
-    rest_stopped best_items (line.Best c.args.cost) (part.Values ∷ []) c.args.lines.now c.values.new.lines c.in_err-assignment.field-0.0 c.from_residual.result
+    rest_stopped best_items (line.Best c.args.cost) c.args.lines.now c.values.new.lines c.in_err-assignment.field-0.0 c.from_residual.result
     c.in_err-assignment.ensures (f.1 ∙ ap Err f.2)
 
 pub returns : goal.returns
-returns c =
-    (line.Values c.in_ok-assignment.assignment ∷ [],
-    ap (λ z. line.Best z ∷ line.Values c.in_ok-assignment.assignment ∷ []) (to_z-of_z w128 c.args.cost c.ranges.cost),
-    c.in_ok-assignment.ensures)
+returns c = (
+  line.Values c.in_ok-assignment.assignment ∷ [],
+  ap (λ z. line.Best z ∷ line.Values c.in_ok-assignment.assignment ∷ []) (to_z-of_z w128 c.args.cost c.ranges.cost),
+  c.in_ok-assignment.ensures,
+)

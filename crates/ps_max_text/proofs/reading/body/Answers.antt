@@ -14,11 +14,11 @@ unreachable-requires c = only_answer c.in_ok-cost.field-0 c.in_ok-cost.ensures.f
 pub returns-in-Optimum : goal.returns-in-Optimum
 returns-in-Optimum c =
     let t = subst (λ i. Takes c.args.lines.now c.take.new.self (i ∷ [])) c.in-Optimum.is c.in_ok-cost.ensures.line in
-    value_read body_items c.args.lines.now c.take.new.self c.optimum.new.lines (line.Optimum c.in-Optimum.cost) part.Answer (part.Values ∷ part.Log ∷ []) c.optimum.result t (optimum_next c.in-Optimum.cost)
-    (subst (λ z. IsRestRead body_items (line.Optimum z) (part.Values ∷ part.Log ∷ []) c.take.new.self c.optimum.new.lines c.optimum.result) (optimum_kept c.args.lines.now c.take.new.self c.in-Optimum.cost t) c.optimum.ensures)
+    value_read body_items c.args.lines.now c.take.new.self c.optimum.new.lines (line.Optimum c.in-Optimum.cost) part.Answer c.optimum.result t (optimum_next c.in-Optimum.cost)
+    (subst (λ z. IsRestRead body_items (line.Optimum z) c.take.new.self c.optimum.new.lines c.optimum.result) (optimum_kept c.args.lines.now c.take.new.self c.in-Optimum.cost t) c.optimum.ensures)
 
 pub returns-in-Unsatisfiable : goal.returns-in-Unsatisfiable
-returns-in-Unsatisfiable c = value_read body_items c.args.lines.now c.take.new.self c.unsatisfiable.new.lines line.Unsatisfiable part.Answer (part.Log ∷ []) c.unsatisfiable.result (subst (λ i. Takes c.args.lines.now c.take.new.self (i ∷ [])) c.in-Unsatisfiable.is c.in_ok-cost.ensures.line) unsatisfiable_next c.unsatisfiable.ensures
+returns-in-Unsatisfiable c = value_read body_items c.args.lines.now c.take.new.self c.unsatisfiable.new.lines line.Unsatisfiable part.Answer c.unsatisfiable.result (subst (λ i. Takes c.args.lines.now c.take.new.self (i ∷ [])) c.in-Unsatisfiable.is c.in_ok-cost.ensures.line) unsatisfiable_next c.unsatisfiable.ensures
 
 pub returns-in-OpenConflicts : goal.returns-in-OpenConflicts
-returns-in-OpenConflicts c = value_read body_items c.args.lines.now c.take.new.self c.open.new.lines (line.OpenConflicts c.in-OpenConflicts.limit c.in-OpenConflicts.count) part.Answer (part.Goal ∷ just_steps c.in-OpenConflicts.count ++ part.Best ∷ []) c.open.result (subst (λ i. Takes c.args.lines.now c.take.new.self (i ∷ [])) c.in-OpenConflicts.is c.in_ok-cost.ensures.line) (open_next c.in-OpenConflicts.limit c.in-OpenConflicts.count) c.open.ensures
+returns-in-OpenConflicts c = value_read body_items c.args.lines.now c.take.new.self c.open.new.lines (line.OpenConflicts c.in-OpenConflicts.limit c.in-OpenConflicts.count) part.Answer c.open.result (subst (λ i. Takes c.args.lines.now c.take.new.self (i ∷ [])) c.in-OpenConflicts.is c.in_ok-cost.ensures.line) (open_next c.in-OpenConflicts.limit c.in-OpenConflicts.count) c.open.ensures

@@ -4,7 +4,8 @@ use Rattle.ps_answer.specs.declared.error.ReportError.TheVariants.{NoMemory}
 use Rattle.ps_max_text.specs.declared.item.MaxItem.TheVariants as line
 use Rattle.ps_max_text.specs.Taken.{just_steps}
 use Rattle.ps_max_text.proofs.Taking.{takes_push, stopped_within, value_stopped}
-use Rattle.ps_max_text.proofs.Passing.{lack_step, one_longer}
+use Rattle.ps_max_text.proofs.Passing.{one_longer}
+use Rattle.ps_max_text.proofs.Lacking.{lack_step}
 use Rattle.ps_max_text.proofs.reading.steps.Goals as goal
 
 pub returns-in_err-step-clause-steps : goal.returns-in_err-step-clause-steps
