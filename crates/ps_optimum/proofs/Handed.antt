@@ -1,5 +1,5 @@
 -- What an assignment of a form's variables gives the text's own.
-use Rattle.std.proofs.Common.{◌≡◌, ℕ, suc, ◌+◌, ◌<◌, ◌≤◌, ◌^◌, ℤ, pos, ◌+ℤ◌, ◌≤ℤ◌, Bool, false, Option, Some, None, List, [], ◌∷◌, ◌++◌, length, map, take, drop, get_or, refl, sym, ap, ◌∙◌, subst, arith}
+use Rattle.std.proofs.Common.{◌≡◌, ℕ, suc, ◌+◌, ◌<◌, ◌≤◌, ◌^◌, ℤ, pos, ◌+ℤ◌, ◌-ℤ◌, ◌≤ℤ◌, unsigned_abs, Bool, false, Option, Some, None, List, [], ◌∷◌, ◌++◌, length, map, take, drop, get_or, refl, sym, ap, ◌∙◌, subst, arith}
 use Rattle.std.specs.Option.{unwrap_or}
 use Rattle.std.proofs.lemmas.Int.{ints}
 use Rattle.std.proofs.lemmas.List.{take_more, take-append-drop, length-take-le, length-map}
@@ -69,6 +69,10 @@ values-more a i w new b lt is same push =
     let long = length-map a value_or_false in
     let more = take_more (values_of a) i false (omega (arith, lt, long)) in
     push ∙ ap (λ x. x ++ b ∷ []) is ∙ ap (λ x. take i (values_of a) ++ x ∷ []) (same ∙ value-is a i) ∙ sym more
+
+-- with a greater gain the limit is nearer
+pub nearer : (old new x : ℤ) → x ≡ pos 2 +ℤ old → x ≤ℤ (pos 1 +ℤ new) → new ≤ℤ pos (2 ^ 90) → unsigned_abs (pos (2 ^ 90) -ℤ new) < unsigned_abs (pos (2 ^ 90) -ℤ old)
+nearer old new x e more few = omega (arith, ints, e, more, few)
 
 pub reached-long : (t : WcnfText) (least : ℤ) (a : Assignment) → Reaches (wcnf_of t) least a → t.variables ≤ length a
 reached-long t least a reaches =

@@ -25,7 +25,7 @@ ends-so (t ∷ []) s h = h
 ends-so (t ∷ u ∷ front) s h = ends-so (u ∷ front) s h
 
 -- the steps that a log told, where it holds these
-told-steps : (new : Telling) (goal : Constraint) (f : Form) (steps : List Step) (h : Handed f goal true new) → IsTrue true → new.steps ≡ Some steps → h.steps ≡ steps
+pub told-steps : (new : Telling) (goal : Constraint) (f : Form) (steps : List Step) (h : Handed f goal true new) → IsTrue true → new.steps ≡ Some steps → h.steps ≡ steps
 told-steps new goal f steps h tells is = let same : Some h.steps ≡ Some steps = sym (h.held tells).2 ∙ is in cc
 
 -- ---- a search for a goal
@@ -44,9 +44,9 @@ spent-steps f goal conflicts learned new steps tells is h =
 pub found-reaches : (p : Wcnf) (goal : Constraint) (least : ℤ) (conflicts : ℕ) (a : Assignment) → goal ≡ goal_of p least
     → IsOutcome p.hard goal conflicts (search.Found a) → Reaches p least a
 found-reaches p goal least conflicts a is h =
-    let met = subst (λ (c : Constraint). IsOutcome p.hard c conflicts (search.Found a)) is h in
-    let up = met-weight h.0 p.soft (least -ℤ p.base) met.4 in
-    (value p h.0, (h.0, h.1, h.2, h.3, refl), omega (arith, ints, up))
+    let met : IsOutcome p.hard (goal_of p least) conflicts (search.Found a) = subst (λ (c : Constraint). IsOutcome p.hard c conflicts (search.Found a)) is h in
+    let up = met-weight met.0 p.soft (least -ℤ p.base) met.4 in
+    (value p met.0, (met.0, met.1, met.2, met.3, refl), omega (arith, ints, up))
 
 -- ---- what the steps are
 pub priced-has : (p : Wcnf) (conflicts : ℕ) (new : Telling) (o : Priced) (steps : List Step) → IsTrue true → new.steps ≡ Some steps

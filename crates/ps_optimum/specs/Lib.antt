@@ -1,2 +1,3 @@
 -- Meaning
 pub mod Searches
+pub mod Printed

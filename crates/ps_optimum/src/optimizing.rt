@@ -4,6 +4,7 @@ ghost use Rattle.ps_log.specs.declared.limits.TheConstants.{MOST_CONFLICTS};
 ghost use Rattle.ps_max_answer.specs.Answers.{fault_of};
 ghost use Rattle.ps_max_answer.specs.Optima.{IsFoundAnswer};
 ghost use Rattle.ps_maxsat.specs.Limits.{IsNarrow, IsSoftWithin};
+ghost use Rattle.ps_optimum.specs.Printed.{IsPrintedAnswer};
 ghost use Rattle.ps_optimum.specs.Searches.{Reaches, wcnf_of};
 ghost use Rattle.ps_wcnf.specs.Laws.{IsWeighed};
 ghost use Rattle.ps_wcnf.specs.Limits.{IsText};
@@ -33,7 +34,8 @@ fn improve(
     requires sizes { IsNarrow wcnf.now }
     requires found { Reaches wcnf.now (pos 1) found.now }
     requires few { conflicts ≤ MOST_CONFLICTS }
-    ensures { IfOk result (IsFoundAnswer text.now conflicts) }
+    ensures found { IfOk result (IsFoundAnswer text.now conflicts) }
+    ensures printed { IfOk result (IsPrintedAnswer conflicts) }
 {
     let mut hand = hand_of(alloc, text, found)?;
     loop {
@@ -57,6 +59,7 @@ pub fn optimum(alloc: Global, text: &WcnfText, conflicts: u64) -> Result<MaxAnsw
     requires few { conflicts ≤ MOST_CONFLICTS }
     ensures found { IfOk result (IsFoundAnswer text.now conflicts) }
     ensures accepted { IfOk result (λ a. fault_of text.now a ≡ None) }
+    ensures printed { IfOk result (IsPrintedAnswer conflicts) }
 {
     check_text(text);
     let wcnf = wcnf_of(alloc, text)?;

@@ -5,11 +5,13 @@ ghost use Rattle.ps_maxsat.specs.Limits.{IsNarrow, IsSoftWithin};
 ghost use Rattle.ps_maxsat.specs.declared.limits.TheConstants.{MOST_TOTAL};
 ghost use Rattle.ps_maxsat.specs.Values.{goal_of};
 ghost use Rattle.ps_maxsat.specs.declared.problem.Wcnf.{Wcnf as Clauses};
+ghost use Rattle.ps_log.specs.Limits.{IsGoalWithin};
+ghost use Rattle.ps_optimum.specs.Printed.{ArePrinted, IsPrintedSought};
 ghost use Rattle.ps_optimum.specs.Searches.{HasEnded, HasPriced, IsSought};
 ghost use Rattle.ps_pb.specs.Weights.{IsWithin};
 
 use ps_io::NoMemory;
-use ps_log::HeldLog;
+use ps_log::{HeldLog, is_goal_within};
 use ps_maxsat::{Priced, Wcnf, best};
 use ps_pb::{Assignment, Constraint, Steps, from_weights};
 use ps_sat::{Outcome, SearchError, search};
@@ -33,8 +35,11 @@ fn goal_of(alloc: Global, wcnf: &Wcnf, least: i128) -> Result<Constraint, NoMemo
     requires least { unsigned_abs least ≤ 2 * MOST_TOTAL }
     ensures value { IfOk result (λ g. g ≡ goal_of wcnf.now least) }
     ensures within { IfOk result (IsWithin wcnf.now.hard.variables) }
+    ensures printed { IfOk result IsGoalWithin }
 {
     let goal = from_weights(alloc, wcnf.soft.as_slice(), least - wcnf.base)?;
+    // Called for its clauses: each constraint is within the limits of a goal.
+    let _within = is_goal_within(&goal);
     Ok(goal)
 }
 
@@ -49,7 +54,9 @@ fn sought_of(
     requires soft { IsSoftWithin wcnf.now }
     requires sizes { IsNarrow wcnf.now }
     requires priced { HasPriced wcnf.now conflicts priced steps }
-    ensures { IfOk result (IsSought wcnf.now (pos 1) conflicts) }
+    requires printed { ArePrinted conflicts steps }
+    ensures sought { IfOk result (IsSought wcnf.now (pos 1) conflicts) }
+    ensures printed { IfOk result (IsPrintedSought conflicts) }
 {
     match priced {
         Priced::NoneAbove { last: _ } => Ok(Sought::Refuted(steps)),
@@ -67,11 +74,14 @@ pub(crate) fn seek_best(alloc: Global, wcnf: &Wcnf, conflicts: u64) -> Result<So
     requires soft { IsSoftWithin wcnf.now }
     requires sizes { IsNarrow wcnf.now }
     requires few { conflicts ≤ MOST_CONFLICTS }
-    ensures { IfOk result (IsSought wcnf.now (pos 1) conflicts) }
+    ensures sought { IfOk result (IsSought wcnf.now (pos 1) conflicts) }
+    ensures printed { IfOk result (IsPrintedSought conflicts) }
 {
     let mut log = HeldLog::new(alloc);
     match best(alloc, wcnf, conflicts, &mut log) {
         Ok(priced) => {
+            // Called for its clauses: each of the form's variables is one that a literal may have.
+            let _variables = wcnf.hard.variables();
             let steps = log.take_steps();
             sought_of(alloc, wcnf, priced, steps, conflicts)
         }
@@ -82,8 +92,10 @@ pub(crate) fn seek_best(alloc: Global, wcnf: &Wcnf, conflicts: u64) -> Result<So
 
 // What a search for a goal found.
 fn sought_by(outcome: Outcome, goal: Constraint, steps: Steps) -> Sought
-    ensures { (p : Clauses) (least : ℤ) (limit : ℕ) → HasEnded p least limit outcome goal steps
-        → IsSought p least limit result }
+    ensures sought { (p : Clauses) (least : ℤ) (limit : ℕ)
+        → HasEnded p least limit outcome goal steps → IsSought p least limit result }
+    ensures printed { (limit : ℕ) → ArePrinted limit steps → IsGoalWithin goal
+        → IsPrintedSought limit result }
 {
     match outcome {
         Outcome::Found(assignment) => Sought::Found(assignment),
@@ -103,12 +115,15 @@ pub(crate) fn seek(
     requires sizes { IsNarrow wcnf.now }
     requires least { unsigned_abs least ≤ 2 * MOST_TOTAL }
     requires few { conflicts ≤ MOST_CONFLICTS }
-    ensures { IfOk result (IsSought wcnf.now least conflicts) }
+    ensures sought { IfOk result (IsSought wcnf.now least conflicts) }
+    ensures printed { IfOk result (IsPrintedSought conflicts) }
 {
     let goal = goal_of(alloc, wcnf, least)?;
     let mut log = HeldLog::new(alloc);
     match search(alloc, &wcnf.hard, &goal, conflicts, &mut log) {
         Ok(outcome) => {
+            // Called for its clauses: each of the form's variables is one that a literal may have.
+            let _variables = wcnf.hard.variables();
             let steps = log.take_steps();
             Ok(sought_by(outcome, goal, steps))
         }
