@@ -27,7 +27,7 @@ use Rattle.ps_max_text.specs.declared.item.MaxItem.TheVariants.{Head, Optimum, U
 use Rattle.ps_max_text.specs.Answered.{log_items, best_items, body_items, max_items}
 use Rattle.ps_max_text.specs.Items.{item_words, IsProper, IsWithin, IsLine}
 use Rattle.ps_max_text.specs.Faults.{AreLines, BeginWith}
-use Rattle.ps_max_text.specs.Texts.{best_lines, open_lines, log_lines, body_lines, max_lines, max_text, IsCost, IsCosted, AreStepsWithin, IsMaxWithin}
+use Rattle.ps_max_text.specs.Texts.{best_lines, spent, log_lines, body_lines, max_lines, max_text, IsCost, IsCosted, AreStepsWithin, IsMaxWithin}
 
 -- ---- they are the lines that are written
 abbrev pub item_line : MaxItem → List ℕ

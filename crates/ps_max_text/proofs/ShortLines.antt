@@ -14,7 +14,7 @@ use Rattle.ps_log.proofs.Lengths.{step_is_short, goal_is_short}
 use Rattle.ps_answer.specs.Words.{world_text, digit_of}
 use Rattle.ps_max_answer.specs.declared.answer.MaxAnswer.{MaxAnswer}
 use Rattle.ps_max_answer.specs.declared.answer.MaxAnswer.TheVariants.{Optimum, Unsatisfiable, Open}
-use Rattle.ps_max_text.specs.Texts.{numbered_line, values_line, log_lines, best_lines, open_lines, body_lines, max_lines, IsShortLine, IsCost, IsCosted, AreStepsWithin, IsMaxWithin}
+use Rattle.ps_max_text.specs.Texts.{number_line, values_line, log_lines, best_lines, spent, body_lines, max_lines, IsShortLine, IsCost, IsCosted, AreStepsWithin, IsMaxWithin}
 
 -- ---- numbers and values
 number_long : (z : ℤ) → pos 0 ≤ℤ z → z ≤ℤ pos (2 ^ 90) → length (signed_decimal z) ≤ 40
@@ -24,7 +24,7 @@ number_long (negsuc n) h k = absurd (omega (arith, ints, h))
 count_long : (n : ℕ) → n ≤ 2 ^ 41 → length (signed_decimal (pos n)) ≤ 40
 count_long n h = number_long (pos n) (omega (arith, ints)) (omega (arith, ints, h))
 
-number_short : (name : List ℕ) (z : ℤ) → length name ≤ 20 → length (signed_decimal z) ≤ 40 → IsShortLine (numbered_line name z)
+number_short : (name : List ℕ) (z : ℤ) → length name ≤ 20 → length (signed_decimal z) ≤ 40 → IsShortLine (number_line name z)
 number_short name z h k = omega (arith, h, k, length-with_word name (signed_decimal z))
 
 world_long : (w : List Bool) → length w ≤ 1024 → length (world_text w) ≤ 1024
@@ -46,7 +46,7 @@ steps_short (s ∷ steps) h = (step_is_short s h.0, steps_short steps h.1)
 log_short : (steps : List Step) → AreStepsWithin steps → AllByRecursion IsShortLine (log_lines steps)
 log_short steps h = (number_short (codes "log") (pos (length steps)) (omega arith) (count_long (length steps) h.few), steps_short steps h.each)
 
-cost_short : (name : List ℕ) (c : ℤ) → length name ≤ 20 → IsCost c → IsShortLine (numbered_line name c)
+cost_short : (name : List ℕ) (c : ℤ) → length name ≤ 20 → IsCost c → IsShortLine (number_line name c)
 cost_short name c h is = number_short name c h (number_long c is.some is.most)
 
 best_short : (best : Option (ℤ × List Bool)) → IfSome best (λ b. IsCosted b.0 b.1) → AllByRecursion IsShortLine (best_lines best)

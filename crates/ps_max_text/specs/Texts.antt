@@ -14,8 +14,12 @@ use Rattle.ps_max_answer.specs.declared.answer.MaxAnswer.{MaxAnswer}
 use Rattle.ps_max_answer.specs.declared.answer.MaxAnswer.TheVariants.{Optimum, Unsatisfiable, Open}
 
 -- a line of a word and a number
-abbrev pub numbered_line : List ℕ → ℤ → List ℕ
-numbered_line name n = with_numbers name (n ∷ [])
+abbrev pub number_line : List ℕ → ℤ → List ℕ
+number_line name n = with_numbers name (n ∷ [])
+
+-- a line of a word and a count
+abbrev pub count_line : List ℕ → ℕ → List ℕ
+count_line name n = number_line name (pos n)
 
 -- the values of the variables: a digit for each, or a dash where there is none
 abbrev pub values_line : List Bool → List ℕ
@@ -23,23 +27,30 @@ values_line w = with_word (codes "v") (world_text w)
 
 -- how many steps there are, and each of them
 abbrev pub log_lines : List Step → List (List ℕ)
-log_lines steps = numbered_line (codes "log") (pos (length steps)) ∷ map step_line steps
+log_lines steps = number_line (codes "log") (pos (length steps)) ∷ map step_line steps
+
+-- the values of an optimum, and the steps of its refutation
+abbrev pub found : List Bool → List Step → List (List ℕ)
+found w steps = values_line w ∷ log_lines steps
+
+-- a search that was spent at a limit, with so many steps
+abbrev pub open_line : ℕ → ℕ → List ℕ
+open_line limit n = with_numbers (codes "open conflicts") (pos limit ∷ pos n ∷ [])
 
 -- the best assignment so far with its cost, or that there is none
 abbrev pub best_lines : Option (ℤ × List Bool) → List (List ℕ)
 best_lines None = codes "best none" ∷ []
-best_lines (Some best) = numbered_line (codes "best") best.0 ∷ values_line best.1 ∷ []
+best_lines (Some best) = number_line (codes "best") best.0 ∷ values_line best.1 ∷ []
 
 -- the goal and the steps of a search that was spent, and the best assignment so far
-abbrev pub open_lines : Constraint → List Step → Option (ℤ × List Bool) → List (List ℕ)
-open_lines goal steps best = goal_line goal ∷ map step_line steps ++ best_lines best
+abbrev pub spent : Constraint → List Step → Option (ℤ × List Bool) → List (List ℕ)
+spent goal steps best = goal_line goal ∷ map step_line steps ++ best_lines best
 
 -- what an answer is, in lines
 abbrev pub body_lines : MaxAnswer → List (List ℕ)
-body_lines (Optimum cost w steps) = numbered_line (codes "optimum") cost ∷ values_line w ∷ log_lines steps
+body_lines (Optimum cost w steps) = number_line (codes "optimum") cost ∷ found w steps
 body_lines (Unsatisfiable steps) = codes "unsatisfiable" ∷ log_lines steps
-body_lines (Open limit goal steps best) =
-    with_numbers (codes "open conflicts") (pos limit ∷ pos (length steps) ∷ []) ∷ open_lines goal steps best
+body_lines (Open limit goal steps best) = open_line limit (length steps) ∷ spent goal steps best
 
 -- the lines of an answer
 unfoldable pub max_lines : MaxAnswer → List (List ℕ)

@@ -1,13 +1,14 @@
 //! Answers that are written.
-ghost use Rattle.std.specs.Prelude.{◌≡◌, ◌<◌, ◌++◌, [], ◌∷◌, Some, codes, length, map, pos};
+ghost use Rattle.std.specs.Prelude.{◌≡◌, ◌<◌, [], ◌∷◌, Some, length, map};
 ghost use Rattle.std.specs.List.{AllByRecursion};
 ghost use Rattle.ps_io.specs.LineText.{IsWord};
 ghost use Rattle.ps_io.specs.Lines.{text_of};
 ghost use Rattle.ps_io.specs.Wrote.{Wrote};
 ghost use Rattle.ps_log.specs.Lines.{HoldsLine};
-ghost use Rattle.ps_log.specs.Texts.{step_line, goal_line, with_numbers};
-ghost use Rattle.ps_max_text.specs.Texts.{body_lines, log_lines, max_lines, numbered_line};
-ghost use Rattle.ps_max_text.specs.Texts.{best_lines, values_line, open_lines, IsShortLine};
+ghost use Rattle.ps_log.specs.Texts.{step_line};
+ghost use Rattle.ps_max_text.specs.Texts.{body_lines, count_line, found, log_lines};
+ghost use Rattle.ps_max_text.specs.Texts.{max_lines, number_line, open_line};
+ghost use Rattle.ps_max_text.specs.Texts.{best_lines, values_line, spent, IsShortLine};
 
 use ps_formula::World;
 use ps_io::{Lines, Sink, WriteFault};
@@ -40,7 +41,7 @@ fn write_count<O: Sink>(lines: &mut Lines<'_, O>, word: &[u8], count: u64) -> Re
     requires one_word { IsWord word.now }
     requires short { length word.now < 20 }
     ensures { Wrote O.written O.faults lines.old lines.new result
-        (numbered_line word.now (pos count) ∷ []) }
+        (count_line word.now count ∷ []) }
 {
     lines.word(word);
     lines.number(count as i128);
@@ -53,7 +54,7 @@ fn write_cost<O: Sink>(lines: &mut Lines<'_, O>, word: &[u8], cost: &i128) -> Re
     requires one_word { IsWord word.now }
     requires short { length word.now < 20 }
     ensures { Wrote O.written O.faults lines.old lines.new result
-        (numbered_line word.now cost.now ∷ []) }
+        (number_line word.now cost.now ∷ []) }
 {
     lines.word(word);
     lines.number(*cost);
@@ -100,10 +101,9 @@ fn write_found<O: Sink>(
     steps: &[Step],
 ) -> Result<(), WriteFault>
     requires empty { text_of lines.old ≡ [] }
-    requires short { AllByRecursion IsShortLine
-        (values_line assignment.now ∷ log_lines steps.now) }
+    requires short { AllByRecursion IsShortLine (found assignment.now steps.now) }
     ensures { Wrote O.written O.faults lines.old lines.new result
-        (values_line assignment.now ∷ log_lines steps.now) }
+        (found assignment.now steps.now) }
 {
     write_values(lines, assignment)?;
     write_log(lines, steps)
@@ -112,8 +112,7 @@ fn write_found<O: Sink>(
 // Adds why an answer is open, the limit of conflicts, and how many steps follow.
 fn add_open<O: Sink>(lines: &mut Lines<'_, O>, limit: u64, count: u64)
     requires { text_of lines.old ≡ [] }
-    ensures { HoldsLine lines.old lines.new
-        (with_numbers (codes "open conflicts") (pos limit ∷ pos count ∷ [])) }
+    ensures { HoldsLine lines.old lines.new (open_line limit count) }
 {
     lines.word(b"open");
     lines.word(b"conflicts");
@@ -125,7 +124,7 @@ fn add_open<O: Sink>(lines: &mut Lines<'_, O>, limit: u64, count: u64)
 fn write_open<O: Sink>(lines: &mut Lines<'_, O>, limit: u64, count: u64) -> Result<(), WriteFault>
     requires { text_of lines.old ≡ [] }
     ensures { Wrote O.written O.faults lines.old lines.new result
-        (with_numbers (codes "open conflicts") (pos limit ∷ pos count ∷ []) ∷ []) }
+        (open_line limit count ∷ []) }
 {
     add_open(lines, limit, count);
     end_line(lines)
@@ -168,9 +167,9 @@ fn write_spent<O: Sink>(
     best: &Option<(i128, World)>,
 ) -> Result<(), WriteFault>
     requires empty { text_of lines.old ≡ [] }
-    requires short { AllByRecursion IsShortLine (open_lines goal.now steps.now best.now) }
+    requires short { AllByRecursion IsShortLine (spent goal.now steps.now best.now) }
     ensures { Wrote O.written O.faults lines.old lines.new result
-        (open_lines goal.now steps.now best.now) }
+        (spent goal.now steps.now best.now) }
 {
     write_goal(lines, goal)?;
     write_steps(lines, steps)?;
