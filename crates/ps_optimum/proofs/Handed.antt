@@ -1,9 +1,9 @@
 -- What an assignment of a form's variables gives the text's own.
-use Rattle.std.proofs.Common.{◌≡◌, ℕ, suc, ◌+◌, ◌<◌, ◌≤◌, ◌^◌, ℤ, pos, ◌+ℤ◌, ◌-ℤ◌, ◌≤ℤ◌, unsigned_abs, Bool, false, Option, Some, None, List, [], ◌∷◌, ◌++◌, length, map, take, drop, get_or, refl, sym, ap, ◌∙◌, subst, arith}
+use Rattle.std.proofs.Common.{◌≡◌, ℕ, suc, ◌+◌, ◌<◌, ◌≤◌, ◌^◌, ℤ, pos, ◌+ℤ◌, ◌-ℤ◌, ◌≤ℤ◌, unsigned_abs, Bool, false, Option, Some, None, List, [], ◌∷◌, ◌++◌, length, take, drop, get_or, refl, sym, ap, ◌∙◌, subst, arith}
 use Rattle.std.specs.Option.{unwrap_or}
 use Rattle.std.proofs.lemmas.Int.{ints}
 use Rattle.std.proofs.lemmas.List.{take_more, take-append-drop, length-take-le, length-map}
-use Rattle.ps_pb.specs.Assignments.{Assignment, full, value_at, values_of, value_or_false}
+use Rattle.ps_pb.specs.Assignments.{Assignment, value_at, values_of, value_or_false}
 use Rattle.ps_pb.proofs.Full.{values-full}
 use Rattle.ps_clause.specs.Forms.{MeetsForm}
 use Rattle.ps_clause.proofs.Values.{values-at}

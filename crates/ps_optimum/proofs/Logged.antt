@@ -1,5 +1,5 @@
 -- The steps that a log holds after a search.
-use Rattle.std.proofs.Common.{◌≡◌, ℕ, ℤ, pos, ◌-ℤ◌, ◌≤ℤ◌, Bool, true, Some, List, [], ◌∷◌, ◌++◌, length, map, refl, sym, ◌∙◌, subst, arith}
+use Rattle.std.proofs.Common.{◌≡◌, ℕ, ℤ, pos, ◌-ℤ◌, true, Some, List, [], ◌∷◌, ◌++◌, refl, sym, ◌∙◌, subst, arith}
 use Rattle.std.specs.Prelude.{IsTrue}
 use Rattle.std.proofs.lemmas.Int.{ints}
 use Rattle.ps_pb.specs.Assignments.{Assignment}
@@ -16,7 +16,7 @@ use Rattle.ps_sat.specs.declared.searching.Outcome.TheVariants as search
 use Rattle.ps_maxsat.specs.declared.problem.Wcnf.{Wcnf}
 use Rattle.ps_maxsat.specs.declared.pricing.Priced.{Priced}
 use Rattle.ps_maxsat.specs.declared.pricing.Priced.TheVariants as priced
-use Rattle.ps_maxsat.specs.Values.{value, goal_of, IsOf, IsPriced, IsPricedLog}
+use Rattle.ps_maxsat.specs.Values.{value, goal_of, IsPriced, IsPricedLog}
 use Rattle.ps_optimum.specs.Searches.{Reaches, HasPriced, HasEnded}
 
 ends-so : (front : List Step) (s : Step) → is_contradiction s ≡ true → ends_in_contradiction (front ++ s ∷ []) ≡ true

@@ -1,5 +1,5 @@
 -- The steps that a log holds are few, and of literals.
-use Rattle.std.proofs.Common.{◌≡◌, ℕ, ◌+◌, ◌≤◌, ℤ, pos, Bool, true, Some, List, [], ◌∷◌, ◌++◌, length, All, subst, inl, inr, arith, ap}
+use Rattle.std.proofs.Common.{◌≡◌, ℕ, ◌+◌, ◌≤◌, pos, true, Some, List, [], ◌∷◌, ◌++◌, length, All, subst, inl, inr, arith, ap}
 use Rattle.std.specs.Prelude.{IsTrue}
 use Rattle.std.proofs.lemmas.List.{length-append}
 use Rattle.std.proofs.lemmas.List.Elements.{All-weaker}
@@ -17,7 +17,8 @@ use Rattle.ps_maxsat.specs.declared.problem.Wcnf.{Wcnf}
 use Rattle.ps_maxsat.specs.declared.pricing.Priced.{Priced}
 use Rattle.ps_maxsat.specs.declared.pricing.Priced.TheVariants as priced
 use Rattle.ps_maxsat.specs.Values.{IsPricedLog, goal_of}
-use Rattle.ps_optimum.specs.Printed.{ArePrinted, AreOfLiterals}
+use Rattle.ps_claims.specs.Printed.{AreOfLiterals}
+use Rattle.ps_optimum.specs.Printed.{ArePrinted}
 use Rattle.ps_optimum.proofs.Logged.{told-steps}
 
 -- literals of few variables are literals

@@ -1,6 +1,5 @@
 -- A text's form as a search takes it.
 use Rattle.std.proofs.Common.{◌≡◌, ℤ, refl, ◌∙◌}
-use Rattle.ps_maxsat.specs.declared.problem.Wcnf.{Wcnf}
 use Rattle.ps_wcnf.specs.Handed.{IsFormOf}
 use Rattle.ps_wcnf.specs.declared.text.WcnfText.{WcnfText}
 use Rattle.ps_wcnf.specs.declared.valued.ValuedForm.{ValuedForm}

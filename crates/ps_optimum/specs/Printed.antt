@@ -1,16 +1,12 @@
 -- Answers that can be written.
-use Rattle.std.specs.Prelude.{ℕ, ◌≤◌, ◌+◌, List, All, length}
-use Rattle.ps_pb.specs.Limits.{IsLiteral}
+use Rattle.std.specs.Prelude.{ℕ, ◌≤◌, ◌+◌, List, length}
 use Rattle.ps_pb.specs.Steps.{Step}
 use Rattle.ps_log.specs.Limits.{IsGoalWithin}
+use Rattle.ps_claims.specs.Printed.{AreOfLiterals}
 use Rattle.ps_max_answer.specs.declared.answer.MaxAnswer.{MaxAnswer}
 use Rattle.ps_max_answer.specs.declared.answer.MaxAnswer.TheVariants.{Optimum, Unsatisfiable, Open}
 use Rattle.ps_optimum.specs.declared.seeking.Sought.{Sought}
 use Rattle.ps_optimum.specs.declared.seeking.Sought.TheVariants as sought
-
--- the literals of each step are those of variables: none is 0
-abbrev pub AreOfLiterals : List Step → Type 0
-AreOfLiterals steps = All (λ s. All IsLiteral s.lits) steps
 
 -- at most one step more than clauses may be learned, each of literals
 pub record ArePrinted (limit : ℕ) (steps : List Step) : Type 0 where
