@@ -1,5 +1,6 @@
 -- Answers that can be written.
 use Rattle.std.specs.Prelude.{ℕ, ◌≤◌, ◌+◌, List, length}
+use Rattle.ps_pb.specs.Constraints.{Constraint}
 use Rattle.ps_pb.specs.Steps.{Step}
 use Rattle.ps_log.specs.Limits.{IsGoalWithin}
 use Rattle.ps_claims.specs.Printed.{AreOfLiterals}
@@ -18,6 +19,10 @@ abbrev pub IsPrintedSought : ℕ → Sought → Type 0
 IsPrintedSought limit (sought.Found a) = Unit {0}
 IsPrintedSought limit (sought.Refuted steps) = ArePrinted limit steps
 IsPrintedSought limit (sought.Spent goal steps) = ArePrinted limit steps × IsGoalWithin goal
+
+-- what was sought can be written where its goal and steps can
+abbrev pub TellsPrinted : Constraint → List Step → Sought → Type 0
+TellsPrinted goal steps s = (limit : ℕ) → ArePrinted limit steps → IsGoalWithin goal → IsPrintedSought limit s
 
 -- the goal and the steps of an answer can be written
 abbrev pub IsPrintedAnswer : ℕ → MaxAnswer → Type 0

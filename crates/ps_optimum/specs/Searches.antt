@@ -1,5 +1,5 @@
 -- What searches for values find.
-use Rattle.std.specs.Prelude.{ℕ, ◌≡◌, ◌^◌, ℤ, pos, ◌≤ℤ◌, List}
+use Rattle.std.specs.Prelude.{ℕ, ◌≡◌, ◌^◌, ℤ, pos, ◌+ℤ◌, ◌≤ℤ◌, List}
 use Rattle.ps_pb.specs.Assignments.{Assignment}
 use Rattle.ps_pb.specs.Constraints.{Constraint}
 use Rattle.ps_pb.specs.Steps.{Step, Refutes}
@@ -53,3 +53,11 @@ pub record IsHand (t : WcnfText) (h : Hand) : Type 0 where
   pub gain_is : h.gain ≡ gain h.assignment t.soft
   pub some : pos 0 ≤ℤ h.gain
   pub few : h.gain ≤ℤ pos (2 ^ 90)
+
+-- what an assignment gives a text: where it has at least a value, the weight that is satisfied is at least that but 1
+abbrev pub GivesHand : WcnfText → Assignment → Hand → Type 0
+GivesHand t a h = (least : ℤ) → Reaches (wcnf_of t) least a → IsHand t h × (least ≤ℤ (pos 1 +ℤ h.gain))
+
+-- what was sought is what a search for its goal ended with
+abbrev pub TellsEnded : Outcome → Constraint → List Step → Sought → Type 0
+TellsEnded o goal steps s = (p : Wcnf) (least : ℤ) (limit : ℕ) → HasEnded p least limit o goal steps → IsSought p least limit s

@@ -1,7 +1,7 @@
 //! The best assignment so far.
-ghost use Rattle.std.specs.Prelude.{◌≡◌, ◌≤◌, ◌+ℤ◌, ◌≤ℤ◌, ℤ, pos, length, take, Some, IfOk};
+ghost use Rattle.std.specs.Prelude.{◌≡◌, ◌≤◌, length, take, Some, IfOk};
 ghost use Rattle.ps_max_answer.specs.declared.answer.MaxAnswer.TheVariants.{Optimum, Open};
-ghost use Rattle.ps_optimum.specs.Searches.{Reaches, IsHand, wcnf_of};
+ghost use Rattle.ps_optimum.specs.Searches.{GivesHand};
 ghost use Rattle.ps_pb.specs.Assignments.{values_of};
 ghost use Rattle.ps_wcnf.specs.Laws.{IsWeighed};
 ghost use Rattle.ps_wcnf.specs.Limits.{IsText};
@@ -64,8 +64,7 @@ pub(crate) fn hand_of(alloc: Global, text: &WcnfText, found: &Assignment) -> Res
     requires text { IsText text.now }
     requires weighed { IsWeighed text.now }
     requires long { text.now.variables ≤ length found.now }
-    ensures { (least : ℤ) → Reaches (wcnf_of text.now) least found.now
-        → IfOk result (λ h. IsHand text.now h × (least ≤ℤ (pos 1 +ℤ h.gain))) }
+    ensures { IfOk result (GivesHand text.now found.now) }
 {
     let assignment = first_values(alloc, found, text.variables)?;
     let (cost, gain) = weigh(assignment.as_slice(), text.soft.as_slice());

@@ -47,13 +47,15 @@ fn improve(
     }
 }
 
-/// The optimum: an allowed assignment of least cost, with the refutation that a value is greater than
-/// its own; or the refutation that a value is at least 1, where no assignment is allowed. It is open
-/// only where a search was spent that had learned so many clauses: for a value of at least 1, or for
-/// one greater than that of the best assignment so far.
+/// The optimum: an allowed assignment of least cost, with the refutation that a value is greater
+/// than its own; or the refutation that a value is at least 1, where no assignment is allowed. It
+/// is open only where a search was spent that had learned so many clauses: for a value of at least
+/// 1, or for one greater than that of the best assignment so far. No reason is against an answer,
+/// and its goal and steps can be written.
 ///
 /// The greatest value is looked for by halving the way to what none is above, and then one greater
-/// than what is in hand until that is refuted (linear search from below; N. Een, N. Sorensson, 2006).
+/// than what is in hand until that is refuted (linear search from below; N. Een, N. Sorensson,
+/// 2006).
 pub fn optimum(alloc: Global, text: &WcnfText, conflicts: u64) -> Result<MaxAnswer, NoMemory>
     requires text { IsText text.now }
     requires few { conflicts ≤ MOST_CONFLICTS }

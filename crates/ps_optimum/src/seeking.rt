@@ -1,13 +1,12 @@
 //! Searches for values, with their steps.
-ghost use Rattle.std.specs.Prelude.{◌≡◌, ◌≤◌, ◌*◌, ℕ, ℤ, IfOk, pos, unsigned_abs};
+ghost use Rattle.std.specs.Prelude.{◌≡◌, ◌≤◌, ◌*◌, IfOk, pos, unsigned_abs};
+ghost use Rattle.ps_log.specs.Limits.{IsGoalWithin};
 ghost use Rattle.ps_log.specs.declared.limits.TheConstants.{MOST_CONFLICTS};
 ghost use Rattle.ps_maxsat.specs.Limits.{IsNarrow, IsSoftWithin};
 ghost use Rattle.ps_maxsat.specs.declared.limits.TheConstants.{MOST_TOTAL};
 ghost use Rattle.ps_maxsat.specs.Values.{goal_of};
-ghost use Rattle.ps_maxsat.specs.declared.problem.Wcnf.{Wcnf as Clauses};
-ghost use Rattle.ps_log.specs.Limits.{IsGoalWithin};
-ghost use Rattle.ps_optimum.specs.Printed.{ArePrinted, IsPrintedSought};
-ghost use Rattle.ps_optimum.specs.Searches.{HasEnded, HasPriced, IsSought};
+ghost use Rattle.ps_optimum.specs.Printed.{ArePrinted, IsPrintedSought, TellsPrinted};
+ghost use Rattle.ps_optimum.specs.Searches.{HasPriced, IsSought, TellsEnded};
 ghost use Rattle.ps_pb.specs.Weights.{IsWithin};
 
 use ps_io::NoMemory;
@@ -92,10 +91,8 @@ pub(crate) fn seek_best(alloc: Global, wcnf: &Wcnf, conflicts: u64) -> Result<So
 
 // What a search for a goal found.
 fn sought_by(outcome: Outcome, goal: Constraint, steps: Steps) -> Sought
-    ensures sought { (p : Clauses) (least : ℤ) (limit : ℕ)
-        → HasEnded p least limit outcome goal steps → IsSought p least limit result }
-    ensures printed { (limit : ℕ) → ArePrinted limit steps → IsGoalWithin goal
-        → IsPrintedSought limit result }
+    ensures sought { TellsEnded outcome goal steps result }
+    ensures printed { TellsPrinted goal steps result }
 {
     match outcome {
         Outcome::Found(assignment) => Sought::Found(assignment),
