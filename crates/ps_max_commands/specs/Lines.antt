@@ -1,8 +1,9 @@
--- The statuses and the line of what is answered of weighted clauses.
-use Rattle.std.specs.Prelude.{ℕ}
+-- The statuses and the lines of what is answered of weighted clauses.
+use Rattle.std.specs.Prelude.{ℕ, Option, Some, None}
 use Rattle.ps_max_answer.specs.declared.answer.MaxAnswer.{MaxAnswer}
 use Rattle.ps_max_answer.specs.declared.answer.MaxAnswer.TheVariants.{Optimum, Unsatisfiable, Open}
-use Rattle.ps_messages.specs.Lines.{Output, accepted}
+use Rattle.ps_max_answer.specs.declared.max_error.MaxError.{MaxError}
+use Rattle.ps_messages.specs.Lines.{Output, accepted, refused_maxsat}
 use Rattle.ps_messages.specs.declared.status.Status.{Status}
 use Rattle.ps_messages.specs.declared.status.Status.TheVariants.{Done, Inconsistent, Unfinished}
 
@@ -16,3 +17,8 @@ status_of (Open limit goal steps best) = Unfinished
 abbrev pub accepted_line : MaxAnswer → Output
 accepted_line (Open limit goal steps best) = accepted 0 1
 accepted_line a = accepted 1 0
+
+-- an answer is accepted where no reason is against it, and else the first reason is named
+abbrev pub judged_as : Option MaxError → MaxAnswer → Output
+judged_as None a = accepted_line a
+judged_as (Some e) a = refused_maxsat e

@@ -1,5 +1,6 @@
 //! What is to be written.
 ghost use Rattle.std.specs.Prelude.{◌≡◌};
+ghost use Rattle.ps_max_commands.specs.Lines.{status_of};
 ghost use Rattle.ps_max_commands.specs.Replies.{output_of};
 
 use ps_max_answer::MaxAnswer;
@@ -14,6 +15,16 @@ pub enum MaxReply {
     Answer(MaxAnswer),
 }
 
+fn status_after(answer: &MaxAnswer) -> Status
+    ensures { result ≡ status_of answer.now }
+{
+    match answer {
+        MaxAnswer::Optimum { .. } => Status::Done,
+        MaxAnswer::Unsatisfiable { .. } => Status::Inconsistent,
+        MaxAnswer::Open { .. } => Status::Unfinished,
+    }
+}
+
 impl MaxReply {
     /// The status after it.
     pub fn status(&self) -> Status
@@ -21,9 +32,7 @@ impl MaxReply {
     {
         match self {
             MaxReply::Line(message) => message.status,
-            MaxReply::Answer(MaxAnswer::Optimum { .. }) => Status::Done,
-            MaxReply::Answer(MaxAnswer::Unsatisfiable { .. }) => Status::Inconsistent,
-            MaxReply::Answer(MaxAnswer::Open { .. }) => Status::Unfinished,
+            MaxReply::Answer(answer) => status_after(answer),
         }
     }
 }

