@@ -3,3 +3,5 @@ pub mod Judgements
 pub mod LawfulSteps
 pub mod KnownClauses
 pub mod FoundWithin
+pub mod OneReading
+pub mod OneDue
