@@ -3,5 +3,3 @@ pub mod Judgements
 pub mod LawfulSteps
 pub mod KnownClauses
 pub mod FoundWithin
-pub mod OneReading
-pub mod OneDue
