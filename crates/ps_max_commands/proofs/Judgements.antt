@@ -8,8 +8,8 @@ use Rattle.ps_max_answer.specs.declared.answer.MaxAnswer.{MaxAnswer}
 use Rattle.ps_max_answer.specs.declared.answer.MaxAnswer.TheVariants.{Optimum, Unsatisfiable, Open}
 use Rattle.ps_max_answer.specs.declared.max_error.MaxError.{MaxError}
 use Rattle.ps_max_answer.specs.declared.max_error.MaxError.TheVariants.{WrongShape, HardMissed, CostWrong, StepRefused, NotRefuted, NoMemory}
-use Rattle.ps_messages.specs.Lines.{Output, accepted, refused_maxsat}
-use Rattle.ps_max_commands.specs.Lines.{accepted_line, judged_as}
+use Rattle.ps_messages.specs.Lines.{Output, accepted}
+use Rattle.ps_max_commands.specs.Lines.{accepted_line, judged_as, IsRefusal}
 use Rattle.ps_max_commands.specs.Due.{IsJudgedBy}
 
 -- the counts of an accepted answer are its own
@@ -36,10 +36,10 @@ fault_is o NoMemory h not = absurd (not refl)
 some_fault : (e : MaxError) → Some e ≡ None → ⊥
 some_fault e h = cc
 
-pub refused_due : (t : WcnfText) (a : MaxAnswer) (e : MaxError) (o : Output) → AnswersMax {A = Accepted} (fault_of t a) (Err e) → e ≢ NoMemory → o ≡ refused_maxsat e → IsJudgedBy t a o
-refused_due t a e o h not is =
-    let fault = fault_is (fault_of t a) e h not in
+pub refused_due : (t : WcnfText) (a : MaxAnswer) (e : MaxError) (o : Output) → AnswersMax {A = Accepted} (fault_of t a) (Err e) → IsRefusal e o → IsJudgedBy t a o
+refused_due t a e o h r =
+    let fault = fault_is (fault_of t a) e h r.other in
     record {
-      is = is ∙ ap (λ f. judged_as f a) (sym fault);
+      is = r.is ∙ ap (λ f. judged_as f a) (sym fault);
       right = λ none. absurd (some_fault e (sym fault ∙ none));
     }

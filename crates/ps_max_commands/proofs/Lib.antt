@@ -3,3 +3,7 @@ pub mod Judgements
 pub mod LawfulSteps
 pub mod KnownClauses
 pub mod FoundWithin
+pub mod OneReading
+pub mod OneDue
+pub mod Returns
+pub mod Accepted

@@ -1,8 +1,9 @@
 -- The statuses and the lines of what is answered of weighted clauses.
-use Rattle.std.specs.Prelude.{ℕ, Option, Some, None}
+use Rattle.std.specs.Prelude.{ℕ, ◌≡◌, ◌≢◌, Option, Some, None}
 use Rattle.ps_max_answer.specs.declared.answer.MaxAnswer.{MaxAnswer}
 use Rattle.ps_max_answer.specs.declared.answer.MaxAnswer.TheVariants.{Optimum, Unsatisfiable, Open}
 use Rattle.ps_max_answer.specs.declared.max_error.MaxError.{MaxError}
+use Rattle.ps_max_answer.specs.declared.max_error.MaxError.TheVariants.{NoMemory}
 use Rattle.ps_messages.specs.Lines.{Output, accepted, refused_maxsat}
 use Rattle.ps_messages.specs.declared.status.Status.{Status}
 use Rattle.ps_messages.specs.declared.status.Status.TheVariants.{Done, Inconsistent, Unfinished}
@@ -22,3 +23,8 @@ accepted_line a = accepted 1 0
 abbrev pub judged_as : Option MaxError → MaxAnswer → Output
 judged_as None a = accepted_line a
 judged_as (Some e) a = refused_maxsat e
+
+-- a reason against an answer is named, which isn't want of memory
+pub record IsRefusal (e : MaxError) (o : Output) : Type 0 where
+  pub other : e ≢ NoMemory
+  pub is : o ≡ refused_maxsat e

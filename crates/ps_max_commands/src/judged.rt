@@ -2,6 +2,7 @@
 ghost use Rattle.std.specs.Prelude.{IfOk};
 ghost use Rattle.ps_max_commands.specs.Due.{DueAnswer, DueCheckMaxSat, DueChecked, IsJudgedBy};
 ghost use Rattle.ps_max_commands.specs.Ends.{EndsCheckMaxSat};
+ghost use Rattle.ps_max_commands.specs.Lines.{IsRefusal};
 ghost use Rattle.ps_max_commands.specs.Replies.{IsShortReply, output_of};
 ghost use Rattle.ps_messages.specs.Messages.{message_output};
 ghost use Rattle.ps_wcnf.specs.Limits.{IsText};
@@ -16,6 +17,17 @@ use ps_messages::Message;
 use ps_wcnf::{WcnfError, WcnfText, read_wcnf};
 use std::alloc::Global;
 
+// The message for a reason against an answer.
+fn refuse(alloc: Global, reason: MaxError) -> Result<Message, NoMemory>
+    ensures refusal { IfOk result (λ m. IsRefusal reason (message_output m)) }
+    ensures status { IfOk result (λ m. EndsCheckMaxSat m.status) }
+{
+    match reason {
+        MaxError::NoMemory => Err(NoMemory),
+        _ => Ok(Message::refused_maxsat(alloc, reason)?),
+    }
+}
+
 // The message for an answer.
 fn judge(alloc: Global, text: &WcnfText, answer: &MaxAnswer) -> Result<Message, NoMemory>
     requires { IsText text.now }
@@ -24,8 +36,7 @@ fn judge(alloc: Global, text: &WcnfText, answer: &MaxAnswer) -> Result<Message, 
 {
     match check_max(alloc, text, answer) {
         Ok(accepted) => Ok(Message::accepted_answer(alloc, accepted)?),
-        Err(MaxError::NoMemory) => Err(NoMemory),
-        Err(reason) => Ok(Message::refused_maxsat(alloc, reason)?),
+        Err(reason) => Ok(refuse(alloc, reason)?),
     }
 }
 

@@ -6,6 +6,6 @@ pub returns-in_ok-accepted_answer-in-Ok-clause-judged : goal.returns-in_ok-accep
 returns-in_ok-accepted_answer-in-Ok-clause-judged c =
     accepted_due c.args.text.now c.args.answer.now c.in-Ok.accepted (message_output c.in_ok-accepted_answer-in-Ok.field-0) c.in-Ok.ensures.judged c.in-Ok.ensures.shown c.in-Ok.ensures.counted c.in_ok-accepted_answer-in-Ok.ensures
 
-pub returns-in_ok-refused_maxsat-in-Err-clause-judged : goal.returns-in_ok-refused_maxsat-in-Err-clause-judged
-returns-in_ok-refused_maxsat-in-Err-clause-judged c =
-    refused_due c.args.text.now c.args.answer.now c.in-Err.reason (message_output c.in_ok-refused_maxsat-in-Err.field-0) c.in-Err.ensures.judged c.in-Err.not-NoMemory c.in_ok-refused_maxsat-in-Err.ensures
+pub returns-in_ok-refuse-in-Err-clause-judged : goal.returns-in_ok-refuse-in-Err-clause-judged
+returns-in_ok-refuse-in-Err-clause-judged c =
+    refused_due c.args.text.now c.args.answer.now c.in-Err.reason (message_output c.in_ok-refuse-in-Err.field-0) c.in-Err.ensures.judged c.in_ok-refuse-in-Err.ensures.refusal
