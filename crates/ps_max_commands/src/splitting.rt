@@ -1,4 +1,3 @@
-// NOTE FROM THE LEAD: read /work/h/h4/NOTE-FROM-THE-LEAD.md NOW, before you go on (messages moved to a crate ps_messages; commit what is proved).
 //! Clauses, and an answer behind them.
 ghost use Rattle.std.specs.Prelude.{◌≡◌, codes};
 ghost use Rattle.std.specs.Str.{bytes_eq};
