@@ -1,5 +1,5 @@
 -- Clauses, a line feed and an answer that is due for them are accepted.
-use Rattle.std.proofs.Common.{◌≡◌, ◌≢◌, ℕ, ◌-◌, ◌<◌, ◌==◌, Bool, true, false, not, Some, None, List, [], ◌∷◌, ◌++◌, length, map, fold, take, codes, refl, sym, ap, subst, ◌∙◌, inl, inr, arith, append_assoc, length-append, true≢false}
+use Rattle.std.proofs.Common.{◌≡◌, ◌≢◌, ℕ, ◌-◌, ◌<◌, ◌==◌, true, false, not, Some, List, [], ◌∷◌, ◌++◌, length, map, fold, take, codes, refl, sym, ap, subst, ◌∙◌, inl, arith, append_assoc, length-append, true≢false}
 use Rattle.std.specs.List.{AllByRecursion, join_with_byte, list_all, onto_first}
 use Rattle.std.specs.Str.{bytes_eq}
 use Rattle.std.proofs.Math.Seq.{take-append_seam}

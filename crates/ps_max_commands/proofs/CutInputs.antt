@@ -1,12 +1,12 @@
 -- An answer is looked for line by line.
-use Rattle.std.proofs.Common.{◌≡◌, ◌≢◌, ℕ, zero, suc, ◌+◌, ◌-◌, ◌<◌, ◌≤◌, ◌==◌, Bool, true, false, Option, Some, None, List, [], ◌∷◌, ◌++◌, length, take, drop, get_or, arith, refl, sym, ap, subst, ◌∙◌, length-append, eqb-true}
+use Rattle.std.proofs.Common.{◌≡◌, ◌≢◌, ℕ, zero, suc, ◌-◌, ◌≤◌, ◌==◌, Bool, true, false, Option, Some, None, List, [], ◌∷◌, length, take, drop, get_or, arith, refl, sym, ap, ◌∙◌, length-append, eqb-true}
 use Rattle.std.specs.List.{All, join_with_byte, slice_split}
-use Rattle.std.proofs.lemmas.List.{take_rest, drop_all, length-take}
+use Rattle.std.proofs.lemmas.List.{take_rest, drop_all}
 use Rattle.std.proofs.lemmas.List.Splits.{slice_split_at, slice_split_none, join_with_byte-slice_split}
 use Rattle.ps_log.specs.FirstLines.{IsFirstLine, IsOneLine}
-use Rattle.ps_wcnf.specs.Splitting.{lines_of, lines_after, IsEndedLine, IsCutLine}
+use Rattle.ps_wcnf.specs.Splitting.{lines_of, IsEndedLine, IsCutLine}
 use Rattle.ps_wcnf.proofs.Cutting.{lines-cut, lines-one}
-use Rattle.ps_max_commands.specs.Splits.{begins_answer, lines_before, behind_lines, answer_of_input, clauses_of_input}
+use Rattle.ps_max_commands.specs.Splits.{begins_answer, lines_before, behind_lines, answer_of_input}
 
 -- the parts between line feeds
 abbrev pub parts_of : List ℕ → List (List ℕ)

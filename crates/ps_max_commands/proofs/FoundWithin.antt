@@ -1,5 +1,5 @@
 -- What a search for an optimum answers is within the limits of its text.
-use Rattle.std.proofs.Common.{◌≡◌, ℕ, ◌+◌, ◌≤◌, ◌^◌, ℤ, pos, ◌≤ℤ◌, ◌+ℤ◌, Bool, Option, Some, None, IfSome, List, length, take, arith, sym, subst}
+use Rattle.std.proofs.Common.{◌≡◌, ℕ, ◌≤◌, ℤ, pos, ◌+ℤ◌, Bool, Option, Some, None, IfSome, List, length, arith, sym, subst}
 use Rattle.std.proofs.lemmas.Int.{ints}
 use Rattle.std.proofs.lemmas.List.{take_all}
 use Rattle.ps_log.specs.declared.limits.TheConstants.{MOST_CONFLICTS}
@@ -7,7 +7,7 @@ use Rattle.ps_pb.specs.Steps.{Step, AreLawful}
 use Rattle.ps_clause.specs.Forms.{first_known}
 use Rattle.ps_wcnf.specs.Costs.{cost, gain, IsAllowed}
 use Rattle.ps_wcnf.specs.Laws.{IsWeighed}
-use Rattle.ps_wcnf.specs.Limits.{IsText, weight_sum}
+use Rattle.ps_wcnf.specs.Limits.{IsText}
 use Rattle.ps_wcnf.specs.Valued.{form_of, goal_of}
 use Rattle.ps_wcnf.specs.declared.text.WcnfText.{WcnfText}
 use Rattle.ps_wcnf.proofs.Building.{after-from}

@@ -1,6 +1,5 @@
 -- What is due for an answer, by what its check returns.
-use Rattle.std.proofs.Common.{◌≡◌, ◌≢◌, ℕ, List, Option, Some, None, Result, Ok, Err, refl, sym, ap, subst, ◌∙◌, ◌⊎◌, inl, inr}
-use Rattle.ps_answer.specs.declared.error.LineKind.{LineKind}
+use Rattle.std.proofs.Common.{◌≡◌, ◌≢◌, Option, Some, None, Err, refl, sym, ap, ◌∙◌}
 use Rattle.ps_valid.specs.declared.refusal.Accepted.{Accepted}
 use Rattle.ps_wcnf.specs.declared.text.WcnfText.{WcnfText}
 use Rattle.ps_max_answer.specs.Answers.{fault_of, AnswersMax, IsCounted, IsShown}

@@ -1,5 +1,5 @@
 -- What is known at first about clauses: constraints of the form's variables, and not many.
-use Rattle.std.proofs.Common.{◌≡◌, ℕ, suc, ◌+◌, ◌<◌, ◌≤◌, ℤ, ◌-ℤ◌, Bool, true, false, List, [], ◌∷◌, ◌++◌, length, map, All, arith, length-append}
+use Rattle.std.proofs.Common.{ℕ, suc, ◌<◌, ◌≤◌, ℤ, ◌-ℤ◌, List, [], ◌∷◌, ◌++◌, length, map, All, arith, length-append}
 use Rattle.std.proofs.lemmas.List.{length-map}
 use Rattle.std.proofs.lemmas.List.Elements.{All-nil, All-cons, All-head, All-tail, All-append}
 use Rattle.ps_pb.specs.Assignments.{place}
@@ -17,7 +17,7 @@ use Rattle.ps_wcnf.specs.Built.{AreNamedBelow, HardNamed, SoftNamed}
 use Rattle.ps_wcnf.specs.Costs.{Soft}
 use Rattle.ps_wcnf.specs.Laws.{IsWeighed}
 use Rattle.ps_wcnf.specs.Limits.{IsText}
-use Rattle.ps_wcnf.specs.Valued.{is_long, after, variables_after, own_clause, own_clauses, clauses_of, form_of, literals_of, base_of, goal_of}
+use Rattle.ps_wcnf.specs.Valued.{is_long, after, variables_after, own_clause, own_clauses, form_of, literals_of, base_of, goal_of}
 use Rattle.ps_wcnf.specs.declared.text.WcnfText.{WcnfText}
 use Rattle.ps_wcnf.proofs.Building.{named-places, named-more, named-push, named-own, after-from, hard-named, soft-named}
 use Rattle.ps_wcnf.proofs.Placed.{literals-placed}

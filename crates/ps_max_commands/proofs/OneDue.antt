@@ -1,14 +1,13 @@
 -- For clauses with an answer behind them one output is due, and one for clauses that aren't read.
-use Rattle.std.proofs.Common.{◌≡◌, ℕ, List, refl, sym, ap, subst, ◌∙◌, ◌⊎◌, inl, inr}
+use Rattle.std.proofs.Common.{◌≡◌, ℕ, List, sym, ap, subst, ◌∙◌, inl, inr}
 use Rattle.ps_max_answer.specs.Answers.{fault_of}
-use Rattle.ps_max_answer.specs.declared.answer.MaxAnswer.{MaxAnswer}
 use Rattle.ps_max_text.specs.Faults.{IsFirstFault}
 use Rattle.ps_max_text.proofs.OneText.{no_fault, one_answer, one_fault}
 use Rattle.ps_messages.specs.Lines.{Output, refused_line, unreadable_clauses}
 use Rattle.ps_wcnf.specs.Readings.{IsRead}
 use Rattle.ps_wcnf.specs.Splitting.{lines_of}
 use Rattle.ps_wcnf.specs.declared.text.WcnfText.{WcnfText}
-use Rattle.ps_max_commands.specs.Due.{IsAnswered, IsUnread, DueMaxSat, IsJudged, IsRefusedLine, DueAnswer, IsCheckedText, DueChecked, DueCheckMaxSat}
+use Rattle.ps_max_commands.specs.Due.{IsAnswered, IsUnread, DueMaxSat, DueAnswer, DueChecked, DueCheckMaxSat}
 use Rattle.ps_max_commands.specs.Lines.{judged_as}
 use Rattle.ps_max_commands.specs.Splits.{clauses_of_input, answer_of_input}
 use Rattle.ps_max_commands.proofs.OneReading.{one_read, read_no_fault}

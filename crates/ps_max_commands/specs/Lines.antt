@@ -1,5 +1,5 @@
 -- The statuses and the lines of what is answered of weighted clauses.
-use Rattle.std.specs.Prelude.{ℕ, ◌≡◌, ◌≢◌, Option, Some, None}
+use Rattle.std.specs.Prelude.{◌≡◌, ◌≢◌, Option, Some, None}
 use Rattle.ps_max_answer.specs.declared.answer.MaxAnswer.{MaxAnswer}
 use Rattle.ps_max_answer.specs.declared.answer.MaxAnswer.TheVariants.{Optimum, Unsatisfiable, Open}
 use Rattle.ps_max_answer.specs.declared.max_error.MaxError.{MaxError}

@@ -1,4 +1,4 @@
-use Rattle.std.proofs.Common.{inl, inr, refl}
+use Rattle.std.proofs.Common.{inl, refl}
 use Rattle.ps_max_text.proofs.ShortLines.{lines_short}
 use Rattle.ps_max_commands.proofs.asked.reply_to_maxsat.Goals as goal
 

@@ -1,4 +1,4 @@
-use Rattle.std.proofs.Common.{◌≡◌, subst, sym, ap, ◌∙◌, option_copied}
+use Rattle.std.proofs.Common.{◌≡◌, subst, sym, ◌∙◌, option_copied}
 use Rattle.ps_wcnf.specs.Splitting.{lines_after}
 use Rattle.ps_max_commands.specs.Splits.{answer_of_input}
 use Rattle.ps_max_commands.proofs.CutInputs.{answer_left, left_later, answer_here, nothing_behind}

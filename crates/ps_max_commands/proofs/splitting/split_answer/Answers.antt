@@ -1,4 +1,4 @@
-use Rattle.std.proofs.Common.{arith, ap, length, ◌≡◌, ◌-◌, take}
+use Rattle.std.proofs.Common.{ap, length, ◌-◌, take}
 use Rattle.ps_max_commands.proofs.CutInputs.{answer_within}
 use Rattle.ps_max_commands.proofs.splitting.split_answer.Goals as goal
 
