@@ -1,5 +1,5 @@
 -- The kinds of lines.
-use Rattle.std.proofs.Common.{◌≡◌, ℕ, ◌≤◌, ◌^◌, ℤ, pos, negsuc, ◌≤ℤ◌, Bool, List, [], ◌∷◌, ◌++◌, length, Result, Ok, Err, refl, sym, ap, subst, ◌∙◌, arith, inl, inr, to_z, of_z}
+use Rattle.std.proofs.Common.{◌≡◌, ℕ, ◌≤◌, ◌^◌, ℤ, pos, negsuc, ◌≤ℤ◌, Bool, List, [], ◌∷◌, ◌++◌, length, Result, Err, refl, sym, ap, subst, ◌∙◌, arith, inl, inr, to_z, of_z}
 use mir.Syntax.{w128}
 use Rattle.std.specs.Prelude.{⊤, codes}
 use Rattle.std.proofs.lemmas.Int.{ints}
@@ -10,13 +10,12 @@ use Rattle.ps_answer.specs.Items.{count, IsPrintable}
 use Rattle.ps_reader.specs.declared.line_fault.LineFault.{LineFault}
 use Rattle.ps_reader.specs.declared.line_fault.LineFault.TheVariants.{NotCanonical}
 use Rattle.ps_reader.specs.Cursor.{later}
-use Rattle.ps_reader.specs.Read.{IsReadOrLacks, WordSays, IsWordRead, both}
-use Rattle.ps_reader.proofs.Sequences.{IsNeverEmpty, word_then, word_or_lacks, sure, all_sure}
+use Rattle.ps_reader.specs.Read.{IsWordRead, both}
+use Rattle.ps_reader.proofs.Sequences.{IsNeverEmpty, word_then, word_or_lacks, all_sure}
 use Rattle.ps_reader.proofs.Items.{IsEndRead, One, Two, other, last_word, count_word, number_word, truths_word}
 use Rattle.ps_reader.proofs.RowWords.{small_kept}
 use Rattle.ps_max_text.specs.Parts.{behind}
-use Rattle.ps_max_text.specs.Faults.{TakesMemory}
-use Rattle.ps_max_text.specs.Read.{FitsNot, IsSaid, IsItemRead, AreValuesRead}
+use Rattle.ps_max_text.specs.Read.{IsSaid, IsItemRead, AreValuesRead}
 use Rattle.ps_max_text.specs.declared.item.MaxItem.{MaxItem}
 use Rattle.ps_max_text.specs.declared.item.MaxItem.TheVariants as line
 use Rattle.ps_max_text.specs.declared.part.MaxPart.{MaxPart}

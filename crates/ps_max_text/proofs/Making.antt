@@ -1,5 +1,5 @@
 -- Kinds of lines, by the words that are read of them.
-use Rattle.std.proofs.Common.{◌≡◌, ℕ, List, [], ◌∷◌, ◌++◌, map, Result, Ok, Err, refl, sym, ap, subst, ◌∙◌, ◌⊎◌, inl, inr}
+use Rattle.std.proofs.Common.{◌≡◌, ℕ, List, ◌++◌, map, Result, Ok, Err, sym, ap, subst, ◌∙◌, ◌⊎◌, inl, inr}
 use Rattle.ps_answer.specs.Words.{Word, Letters, SpellWords}
 use Rattle.ps_reader.specs.declared.line_fault.LineFault.{LineFault}
 use Rattle.ps_reader.specs.declared.line_fault.LineFault.TheVariants.{NotCanonical, TooLarge, NoMemory}

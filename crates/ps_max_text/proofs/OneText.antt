@@ -1,5 +1,5 @@
 -- Bytes are the text of one answer, or have one first line at fault, and not both.
-use Rattle.std.proofs.Common.{◌≡◌, ℕ, ◌+◌, true, false, List, [], ◌∷◌, ◌++◌, length, Option, None, Some, refl, sym, ap, subst, ◌∙◌, append_assoc, append-nil, arith, true≢false}
+use Rattle.std.proofs.Common.{◌≡◌, ℕ, ◌+◌, true, false, List, [], ◌∷◌, ◌++◌, length, Some, refl, sym, ap, subst, ◌∙◌, append_assoc, true≢false}
 use Rattle.std.specs.Prelude.{bytes_eq}
 use Rattle.std.specs.List.{AllByRecursion, list_any}
 use Rattle.std.proofs.lemmas.Option.{none-some, same_Some}
@@ -18,7 +18,7 @@ use Rattle.ps_max_text.specs.declared.part.MaxPart.{MaxPart}
 use Rattle.ps_max_text.specs.declared.part.MaxPart.TheVariants.{Head, Answer, Values, Log, Step, Goal, Best, End}
 use Rattle.ps_max_text.specs.Items.{item_words, IsLine, IsWithin}
 use Rattle.ps_max_text.specs.Parts.{first_words, behind, at_start, due_behind}
-use Rattle.ps_max_text.specs.Faults.{AreLines, BeginWith, is_begun, IsFault, IsFirstFault}
+use Rattle.ps_max_text.specs.Faults.{AreLines, is_begun, IsFault, IsFirstFault}
 use Rattle.ps_max_text.specs.Texts.{max_text, IsMaxWithin}
 use Rattle.ps_max_text.proofs.OneLine.{one_item}
 use Rattle.ps_max_text.specs.Answered.{max_items}

@@ -1,28 +1,19 @@
 -- Lines of values pass where their parts are due.
-use Rattle.std.specs.Prelude.{IfOk, codes, bytes_eq}
-use Rattle.std.proofs.Common.{◌≡◌, ℕ, ℤ, ◌+◌, Bool, false, ◌||◌, List, [], ◌∷◌, ◌++◌, length, map, Option, None, Some, Result, Ok, Err, refl, sym, ap, subst, ◌∙◌, arith, append-nil, append_assoc, length-append, to_z, of_z}
+use Rattle.std.specs.Prelude.{IfOk}
+use Rattle.std.proofs.Common.{◌≡◌, ℕ, ℤ, ◌+◌, Bool, List, [], ◌∷◌, ◌++◌, length, map, Option, None, Some, Result, Ok, Err, refl, sym, ap, subst, ◌∙◌, arith, append_assoc, length-append, to_z, of_z}
 use mir.Syntax.{w128}
 use Rattle.std.proofs.lemmas.Option.{none-some}
-use Rattle.std.proofs.lemmas.Slice.Eq.{bytes_eq-Decides}
-use Rattle.std.specs.List.{AllByRecursion}
-use Rattle.ps_io.specs.LineText.{lines_bytes}
-use Rattle.ps_log.specs.FirstLines.{IsOneLine, IsFirstLine}
-use Rattle.ps_log.specs.Spellings.{words_of}
-use Rattle.ps_log.specs.Texts.{step_numbers}
 use Rattle.ps_pb.specs.Constraints.{Constraint}
 use Rattle.ps_pb.specs.Steps.{Step}
-use Rattle.ps_answer.specs.Faults.{first_of}
-use Rattle.ps_answer.specs.Words.{Word, Letters, Number, SpellWords}
 use Rattle.ps_answer.specs.declared.error.ReportError.{ReportError}
-use Rattle.ps_answer.specs.declared.error.ReportError.TheVariants.{NoMemory}
 use Rattle.ps_max_answer.specs.declared.answer.MaxAnswer.{MaxAnswer}
 use Rattle.ps_max_answer.specs.declared.answer.MaxAnswer.TheVariants as answer
 use Rattle.ps_max_text.specs.Answered.{log_items, best_items, body_items, max_items}
 use Rattle.ps_max_text.specs.Items.{IsProper}
 use Rattle.ps_max_text.specs.Parts.{at_start, behind, due_behind, many_steps}
-use Rattle.ps_max_text.specs.Faults.{AreLines, IsLackingLine}
+use Rattle.ps_max_text.specs.Faults.{AreLines}
 use Rattle.ps_max_text.specs.Read.{Fits}
-use Rattle.ps_max_text.specs.Taken.{left_in, Takes, IsStopped, IsValueRead, just_steps}
+use Rattle.ps_max_text.specs.Taken.{Takes, IsValueRead, just_steps}
 use Rattle.ps_max_text.specs.declared.item.MaxItem.{MaxItem}
 use Rattle.ps_max_text.specs.declared.item.MaxItem.TheVariants as line
 use Rattle.ps_max_text.specs.declared.part.MaxPart.{MaxPart}

@@ -1,5 +1,5 @@
 -- What the lines of an answer within the limits say, one after the other.
-use Rattle.std.proofs.Common.{◌≡◌, ℕ, ◌<◌, ◌≤◌, ◌^◌, ℤ, pos, ◌≤ℤ◌, true, false, Option, Some, None, IfSome, List, [], ◌∷◌, ◌++◌, length, map, All, refl, sym, ap, ◌∙◌, arith, unsigned_abs, append-nil, Bool}
+use Rattle.std.proofs.Common.{◌≡◌, ℕ, ◌<◌, ◌≤◌, ◌^◌, ℤ, pos, ◌≤ℤ◌, false, Option, Some, None, IfSome, List, [], ◌∷◌, ◌++◌, length, map, All, refl, sym, ap, ◌∙◌, arith, unsigned_abs, append-nil, Bool}
 use Rattle.std.specs.Prelude.{codes, decimal}
 use Rattle.std.specs.List.{AllByRecursion}
 use Rattle.std.proofs.lemmas.Fmt.{decimal_digit}
@@ -18,16 +18,16 @@ use Rattle.ps_log.proofs.Reading.{Small, step_small, goal_small}
 use Rattle.ps_log.proofs.StepShapes.{first_in, rest_in}
 use Rattle.ps_report.proofs.Made.{number_words}
 use Rattle.ps_answer.specs.Items.{count}
-use Rattle.ps_answer.specs.Words.{Word, Letters, Number, Truths, SpellWords, joined}
-use Rattle.ps_answer.proofs.Written.{IsWordSmall, no_space, written_both}
+use Rattle.ps_answer.specs.Words.{Letters, Number, Truths, SpellWords, joined}
+use Rattle.ps_answer.proofs.Written.{IsWordSmall, written_both}
 use Rattle.ps_max_answer.specs.declared.answer.MaxAnswer.{MaxAnswer}
 use Rattle.ps_max_answer.specs.declared.answer.MaxAnswer.TheVariants as answer
 use Rattle.ps_max_text.specs.declared.item.MaxItem.{MaxItem}
 use Rattle.ps_max_text.specs.declared.item.MaxItem.TheVariants.{Head, Optimum, Unsatisfiable, OpenConflicts, Values, LogHead, StepLine, GoalLine, NoBest, Best, End}
 use Rattle.ps_max_text.specs.Answered.{log_items, best_items, body_items, max_items}
-use Rattle.ps_max_text.specs.Items.{item_words, IsProper, IsWithin, IsLine}
+use Rattle.ps_max_text.specs.Items.{item_words, IsProper, IsWithin}
 use Rattle.ps_max_text.specs.Faults.{AreLines, BeginWith}
-use Rattle.ps_max_text.specs.Texts.{best_lines, spent, log_lines, body_lines, max_lines, max_text, IsCost, IsCosted, AreStepsWithin, IsMaxWithin}
+use Rattle.ps_max_text.specs.Texts.{best_lines, log_lines, body_lines, max_lines, max_text, IsCosted, AreStepsWithin, IsMaxWithin}
 
 -- ---- they are the lines that are written
 abbrev pub item_line : MaxItem → List ℕ

@@ -1,20 +1,19 @@
 -- The lines of an answer within the limits are short enough to be written.
-use Rattle.std.proofs.Common.{◌≡◌, ℕ, suc, ◌+◌, ◌<◌, ◌≤◌, ◌^◌, ℤ, pos, negsuc, ◌≤ℤ◌, Bool, Option, Some, None, IfSome, List, [], ◌∷◌, ◌++◌, length, map, arith, length-append, codes}
+use Rattle.std.proofs.Common.{ℕ, ◌≤◌, ◌^◌, ℤ, pos, negsuc, ◌≤ℤ◌, Bool, Option, Some, None, IfSome, List, [], ◌∷◌, ◌++◌, length, map, arith, codes}
 use Rattle.std.specs.Fmt.{signed_decimal}
 use Rattle.std.specs.List.{AllByRecursion}
 use Rattle.std.proofs.lemmas.Fmt.{length-decimal-le_wide}
 use Rattle.std.proofs.lemmas.Int.{ints}
 use Rattle.std.proofs.lemmas.List.{length-map}
 use Rattle.ps_io.proofs.WordLemmas.{length-with_word}
-use Rattle.ps_pb.specs.Constraints.{Constraint}
 use Rattle.ps_pb.specs.Steps.{Step}
-use Rattle.ps_log.specs.Limits.{IsStepWithin, IsGoalWithin}
-use Rattle.ps_log.specs.Texts.{step_line, goal_line, with_number, with_numbers}
+use Rattle.ps_log.specs.Limits.{IsStepWithin}
+use Rattle.ps_log.specs.Texts.{step_line, with_number, with_numbers}
 use Rattle.ps_log.proofs.Lengths.{step_is_short, goal_is_short}
 use Rattle.ps_answer.specs.Words.{world_text, digit_of}
 use Rattle.ps_max_answer.specs.declared.answer.MaxAnswer.{MaxAnswer}
 use Rattle.ps_max_answer.specs.declared.answer.MaxAnswer.TheVariants.{Optimum, Unsatisfiable, Open}
-use Rattle.ps_max_text.specs.Texts.{number_line, values_line, log_lines, best_lines, spent, body_lines, max_lines, IsShortLine, IsCost, IsCosted, AreStepsWithin, IsMaxWithin}
+use Rattle.ps_max_text.specs.Texts.{number_line, values_line, log_lines, best_lines, body_lines, max_lines, IsShortLine, IsCost, IsCosted, AreStepsWithin, IsMaxWithin}
 
 -- ---- numbers and values
 number_long : (z : ℤ) → pos 0 ≤ℤ z → z ≤ℤ pos (2 ^ 90) → length (signed_decimal z) ≤ 40

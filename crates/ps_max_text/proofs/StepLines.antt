@@ -1,5 +1,5 @@
 -- Lines of steps and goals, as they are read.
-use Rattle.std.proofs.Common.{◌≡◌, ℕ, ℤ, Bool, List, [], ◌∷◌, map, Result, Ok, Err, refl, sym, ap, subst, ◌∙◌, true≢false, ◌⊎◌, inl, inr}
+use Rattle.std.proofs.Common.{◌≡◌, ℕ, Bool, List, [], ◌∷◌, Result, Ok, Err, refl, sym, ap, subst, ◌∙◌, true≢false, ◌⊎◌, inl, inr}
 use Rattle.std.specs.List.{list_all}
 use Rattle.ps_pb.specs.Steps.{Step}
 use Rattle.ps_pb.specs.Constraints.{Constraint}
@@ -9,7 +9,7 @@ use Rattle.ps_log.specs.StepTexts.{IsStepText, IsStepAnswer}
 use Rattle.ps_log.specs.GoalTexts.{IsGoalText, IsGoalAnswer}
 use Rattle.ps_log.specs.Limits.{IsStepWithin, IsGoalWithin}
 use Rattle.ps_log.specs.Texts.{step_numbers, goal_numbers}
-use Rattle.ps_log.specs.Spellings.{words_of, SpellAll}
+use Rattle.ps_log.specs.Spellings.{words_of}
 use Rattle.ps_log.specs.declared.line_error.LineError.{LineError}
 use Rattle.ps_log.specs.declared.line_error.LineError.TheVariants as why
 use Rattle.ps_log.proofs.LineAnswers.{AreTexts, first-unique, lacks-all}

@@ -1,5 +1,5 @@
 -- The text of an answer.
-use Rattle.std.specs.Prelude.{ℕ, ◌≡◌, ◌≤◌, ◌<◌, ◌^◌, ℤ, pos, ◌≤ℤ◌, Bool, false, Option, Some, None, IfSome, List}
+use Rattle.std.specs.Prelude.{ℕ, ◌≤◌, ◌<◌, ◌^◌, ℤ, pos, ◌≤ℤ◌, Bool, false, Option, Some, None, IfSome, List}
 use Rattle.std.specs.Prelude.{[], ◌∷◌, ◌++◌, length, map, codes}
 use Rattle.std.specs.List.{AllByRecursion}
 use Rattle.ps_io.specs.LineText.{with_word, lines_bytes}

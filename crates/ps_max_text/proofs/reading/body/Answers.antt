@@ -1,9 +1,9 @@
-use Rattle.std.proofs.Common.{subst, ◌∷◌, ◌++◌}
+use Rattle.std.proofs.Common.{subst, ◌∷◌}
 use Rattle.std.specs.Prelude.{[]}
 use Rattle.ps_max_text.specs.declared.item.MaxItem.TheVariants as line
 use Rattle.ps_max_text.specs.declared.part.MaxPart.TheVariants as part
 use Rattle.ps_max_text.specs.Answered.{body_items}
-use Rattle.ps_max_text.specs.Taken.{Takes, IsRestRead, just_steps}
+use Rattle.ps_max_text.specs.Taken.{Takes, IsRestRead}
 use Rattle.ps_max_text.proofs.Taking.{value_read}
 use Rattle.ps_max_text.proofs.Passing.{only_answer, optimum_next, optimum_kept, unsatisfiable_next, open_next}
 use Rattle.ps_max_text.proofs.reading.body.Goals as goal

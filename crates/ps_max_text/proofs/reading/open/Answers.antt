@@ -1,7 +1,5 @@
-use Rattle.std.proofs.Common.{◌∙◌, ap, refl, subst, Err, ◌∷◌, ◌++◌, map, to_z, of_z}
-use mir.Syntax.{w128}
+use Rattle.std.proofs.Common.{◌∙◌, ap, Err, ◌∷◌, ◌++◌, map}
 use Rattle.std.specs.Prelude.{[]}
-use Rattle.std.proofs.lemmas.Int.{to_z-of_z}
 use Rattle.std.proofs.lemmas.Result.{err_from_is_err_and}
 use Rattle.ps_max_text.specs.declared.item.MaxItem.TheVariants as line
 use Rattle.ps_max_text.specs.declared.part.MaxPart.TheVariants as part

@@ -1,4 +1,4 @@
-use Rattle.std.proofs.Common.{◌∙◌, ap, refl, subst, Err, ◌∷◌, ◌++◌, map, to_z, of_z}
+use Rattle.std.proofs.Common.{◌∙◌, ap, Err, ◌∷◌}
 use mir.Syntax.{w128}
 use Rattle.std.specs.Prelude.{[]}
 use Rattle.std.proofs.lemmas.Int.{to_z-of_z}

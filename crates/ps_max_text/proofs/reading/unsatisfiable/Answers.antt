@@ -1,10 +1,6 @@
-use Rattle.std.proofs.Common.{◌∙◌, ap, refl, subst, Err, ◌∷◌, ◌++◌, map, to_z, of_z}
-use mir.Syntax.{w128}
-use Rattle.std.specs.Prelude.{[]}
-use Rattle.std.proofs.lemmas.Int.{to_z-of_z}
+use Rattle.std.proofs.Common.{◌∙◌, ap, refl, Err}
 use Rattle.std.proofs.lemmas.Result.{err_from_is_err_and}
 use Rattle.ps_max_text.specs.declared.item.MaxItem.TheVariants as line
-use Rattle.ps_max_text.specs.declared.part.MaxPart.TheVariants as part
 use Rattle.ps_max_text.specs.Answered.{body_items, log_items}
 use Rattle.ps_max_text.proofs.Taking.{rest_stopped}
 use Rattle.ps_max_text.proofs.reading.unsatisfiable.Goals as goal
