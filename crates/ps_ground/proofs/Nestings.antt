@@ -1,5 +1,5 @@
 -- How deep the canonical spellings of ground formulas nest.
-use Rattle.std.proofs.Common.{◌≡◌, ℕ, suc, ◌+◌, ◌<◌, ◌≤◌, min, max, Bool, true, false, List, [], ◌∷◌, ◌++◌, length, map, get_or, All, refl, sym, ap, subst, ◌∙◌, if◌then◌else◌, inl, inr, arith}
+use Rattle.std.proofs.Common.{◌≡◌, ℕ, ◌+◌, ◌<◌, ◌≤◌, min, max, Bool, true, false, List, [], ◌∷◌, ◌++◌, length, map, get_or, All, refl, sym, ap, subst, ◌∙◌, if◌then◌else◌, inl, inr, arith}
 use Rattle.std.specs.Prelude.{◌⊎◌, ◌==◌, nat_lt}
 use Rattle.std.specs.List.{fold}
 use Rattle.std.proofs.lemmas.Bool.{cases_lt, le-ltb}
@@ -23,7 +23,6 @@ use Rattle.ps_first_order.specs.FirstOrder as first_order
 use Rattle.ps_first_order.specs.Parts.{joined_by, bound_by, operand, formula_over, formulas_in, Fits, AreParts}
 use Rattle.ps_ground.specs.declared.spelling.Spelling.{Spelling}
 use Rattle.ps_ground.specs.Grounding.{conjunction, disjunction, ground_under}
-use Rattle.ps_ground.specs.GroundParts.{ground_part}
 use Rattle.ps_ground.specs.Spellings.{most_of, spelling, at_level, joined_spelling, chain_spelling, bound_spelling, alone, operand_spelling, spelling_over, IsSmall, AreSmall, level_over, depth_over, spelling_of, AreSpelled, IsDepthOf}
 use Rattle.ps_ground.proofs.Marking.{formula_at_place}
 
