@@ -1,4 +1,4 @@
-use Rattle.std.proofs.Common.{ℕ, List, subst, sym, string_bytes, arith}
+use Rattle.std.proofs.Common.{ℕ, List, [], subst, sym, string_bytes, arith}
 use Rattle.std.proofs.lemmas.List.{length-map}
 use Rattle.ps_commands.specs.Commands.{default_of, words_of, SetOne}
 use Rattle.ps_commands.specs.Settings.{FindsOne}
