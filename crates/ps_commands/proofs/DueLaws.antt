@@ -1,12 +1,11 @@
 -- What is due for what was read and judged.
-use Rattle.std.proofs.Common.{◌≡◌, inl, ℕ, ◌+◌, ◌-◌, ◌<◌, arith, length-append, ◌≤◌, Bool, List, [], ◌++◌, length, Option, Some, None, Err, String, refl, sym, ap, subst, ◌∙◌, append-nil}
+use Rattle.std.proofs.Common.{◌≡◌, inl, ℕ, ◌+◌, ◌<◌, arith, length-append, ◌≤◌, Bool, List, [], ◌++◌, length, Option, Some, None, Err, String, refl, sym, ap, subst, ◌∙◌, append-nil}
 use Rattle.std.specs.declared.alloc.Global.{Global}
 use Rattle.std.proofs.lemmas.Option.{same_Some}
 use Rattle.ps_problem.specs.Problems.{Parts}
 use Rattle.ps_problem.specs.Written.{items_from}
 use Rattle.ps_canonical.specs.Lines.{upgraded_text}
 use Rattle.ps_answer.specs.declared.answer.Answer.{Answer}
-use Rattle.ps_answer.specs.declared.error.ReportError.TheVariants as errors
 use Rattle.ps_read.specs.declared.read_error.ReadError.{ReadError}
 use Rattle.ps_read.specs.declared.read_error.ReadError.TheVariants as unread
 use Rattle.ps_text.specs.declared.kind.ReadKind.{ReadKind}

@@ -13,7 +13,6 @@ use Rattle.ps_check.specs.declared.checked.Checked.TheVariants as found
 use Rattle.ps_check.specs.Checks.{HasChecked, IsFoundIn, IsReportJudged}
 use Rattle.ps_commands.specs.declared.command.Command.TheVariants.{Check}
 use Rattle.ps_messages.specs.Lines as lines
-use Rattle.ps_commands.specs.Due as due
 use Rattle.ps_commands.specs.Due.{DueText, FaultAt, NotRead, ReadAs, Spelled, searched}
 use Rattle.ps_messages.specs.Lines.{Output}
 use Rattle.ps_commands.specs.Replies.{IsDueFor}

@@ -19,7 +19,6 @@ use Rattle.ps_commands.specs.declared.command.Command.{Command}
 use Rattle.ps_make.specs.declared.made.TheConstants.{MOST_LINKS}
 use Rattle.ps_commands.specs.declared.command.Command.TheVariants.{Check, CheckMaxSat, Explain, Make, MaxSat, Solve, Upgrade}
 use Rattle.ps_commands.specs.declared.made.MadeProblem.{MadeProblem}
-use Rattle.ps_messages.specs.declared.message.Message.{Message}
 use Rattle.ps_commands.specs.declared.reply.Reply.{Reply}
 use Rattle.ps_commands.specs.declared.reply.Reply.TheVariants.{Line, Report, Explanation, Made, Upgraded, Weighted}
 use Rattle.ps_commands.specs.declared.reply_error.ReplyError.{ReplyError}
