@@ -1,5 +1,5 @@
 -- Clauses, a line feed and an answer that is due for them are accepted.
-use Rattle.std.proofs.Common.{◌≡◌, ◌≢◌, ℕ, ◌-◌, ◌<◌, ◌==◌, true, false, not, Some, List, [], ◌∷◌, ◌++◌, length, map, fold, take, codes, refl, sym, ap, subst, ◌∙◌, inl, arith, append_assoc, length-append, true≢false}
+use Rattle.std.proofs.Common.{◌≡◌, ◌≢◌, ℕ, ◌-◌, ◌<◌, ◌==◌, true, false, not, Some, List, [], ◌∷◌, ◌++◌, length, map, fold, take, codes, refl, sym, ap, subst, ◌∙◌, inl, inr, arith, append_assoc, length-append, true≢false}
 use Rattle.std.specs.List.{AllByRecursion, join_with_byte, list_all, onto_first}
 use Rattle.std.specs.Str.{bytes_eq}
 use Rattle.std.proofs.Math.Seq.{take-append_seam}
@@ -24,6 +24,7 @@ use Rattle.ps_max_answer.proofs.Accepted.{found-unfaulted}
 use Rattle.ps_max_text.specs.Texts.{body_lines, max_lines, max_text}
 use Rattle.ps_messages.specs.Lines.{Output}
 use Rattle.ps_max_commands.specs.Due.{IsAnswered, IsJudgedBy, IsCheckedText, DueChecked, DueCheckMaxSat}
+use Rattle.ps_max_commands.specs.Laws.{EndsWhole}
 use Rattle.ps_max_commands.specs.Lines.{accepted_line, judged_as}
 use Rattle.ps_max_commands.specs.Splits.{is_answer_word, answer_of_input, clauses_of_input}
 use Rattle.ps_max_commands.proofs.CutInputs.{parts_of, lines_cut, answer_later, answer_here}
@@ -158,18 +159,65 @@ clauses_are bytes rest e =
     let many : length input - length rest ≡ length (bytes ++ 10 ∷ []) = omega (arith, length-append bytes (10 ∷ rest), length-append bytes (10 ∷ [])) in
     ap (λ x. take (length input - length x) input) e ∙ ap (λ n. take n input) many ∙ ap (take (length (bytes ++ 10 ∷ []))) cut ∙ take-append_seam (bytes ++ 10 ∷ []) rest
 
+-- what stands before the answer, which begins at the front of what follows, is read, and the answer is accepted
+judged_behind : (conflicts : ℕ) (bytes input : List ℕ) (o : Output) (h : IsAnswered conflicts bytes o) → IsRead (lines_of (clauses_of_input input)) h.text
+    → answer_of_input input ≡ max_text h.answer → DueCheckMaxSat input (accepted_line h.answer)
+judged_behind conflicts bytes input o h read answer =
+    let fault = found-unfaulted h.text conflicts h.answer h.found in
+    let judged : IsJudgedBy h.text h.answer (accepted_line h.answer) = record { is = ap (λ f. judged_as f h.answer) (sym fault); right = λ e. found_shown h.text conflicts h.answer h.found } in
+    let checked : IsCheckedText (clauses_of_input input) (max_text h.answer) (accepted_line h.answer) = record {
+      text = h.text;
+      read = read;
+      judged = inl (record { answer = h.answer; is_text = refl; within = h.within; judged = judged });
+    } in
+    subst (λ x. DueChecked (clauses_of_input input) x (accepted_line h.answer)) (sym answer) (inl checked)
+
 pub answer_accepted : (conflicts : ℕ) (bytes : List ℕ) (o : Output) (h : IsAnswered conflicts bytes o) → DueCheckMaxSat (bytes ++ (codes "\n" ++ o.text)) (accepted_line h.answer)
 answer_accepted conflicts bytes o h =
     let text : List ℕ = max_text h.answer in
     let input : List ℕ = bytes ++ 10 ∷ text in
-    let fault = found-unfaulted h.text conflicts h.answer h.found in
     let answer : answer_of_input input ≡ text = answer_is bytes h.text h.read text ∙ text_begins h.answer in
-    let judged : IsJudgedBy h.text h.answer (accepted_line h.answer) = record { is = ap (λ f. judged_as f h.answer) (sym fault); right = λ e. found_shown h.text conflicts h.answer h.found } in
-    let checked : IsCheckedText (bytes ++ 10 ∷ []) text (accepted_line h.answer) = record {
-      text = h.text;
-      read = read_ended bytes h.text h.read;
-      judged = inl (record { answer = h.answer; is_text = refl; within = h.within; judged = judged });
-    } in
     subst (λ x. DueCheckMaxSat (bytes ++ 10 ∷ x) (accepted_line h.answer)) (sym h.written)
-    (subst (λ x. DueChecked (clauses_of_input input) x (accepted_line h.answer)) (sym answer)
-    (subst (λ x. DueChecked x text (accepted_line h.answer)) (sym (clauses_are bytes text answer)) (inl checked)))
+    (judged_behind conflicts bytes input o h (subst (λ x. IsRead (lines_of x) h.text) (sym (clauses_are bytes text answer)) (read_ended bytes h.text h.read)) answer)
+
+-- ---- clauses whose last line is ended already
+-- the parts before the last line feed say something
+record SaysBefore (ps : List (List ℕ)) : Type 0 where
+  said : List Line
+  are : AreSaid ps said
+
+ended_said : (ps : List (List ℕ)) (said : List Line) → AllByRecursion IsOneLine ps → map line_of (lines_of (ended ps [])) ≡ map Some said → SaysBefore ps
+unfolding AreSaid
+ended_said [] said whole e = record { said = []; are = tt }
+ended_said (p ∷ ps) [] whole e =
+    let cut = ap (map line_of) (lines_cut (ended (p ∷ ps) []) (without_return p) (ended ps []) (first_part p ps [] whole.0)) in
+    absurd (omega (arith, ap length (sym cut ∙ e)))
+ended_said (p ∷ ps) (s ∷ said) whole e =
+    let cut : line_of (without_return p) ∷ map line_of (lines_of (ended ps [])) ≡ Some s ∷ map Some said =
+    sym (ap (map line_of) (lines_cut (ended (p ∷ ps) []) (without_return p) (ended ps []) (first_part p ps [] whole.0))) ∙ e in
+    let r = ended_said ps said whole.1 (tail (line_of (without_return p)) (Some s) (map line_of (lines_of (ended ps []))) (map Some said) cut) in
+    record { said = s ∷ r.said; are = (head (line_of (without_return p)) (Some s) (map line_of (lines_of (ended ps []))) (map Some said) cut, r.are) }
+
+whole_answer : (front rest : List ℕ) (t : WcnfText) → IsRead (lines_of (front ++ 10 ∷ [])) t → answer_of_input (front ++ 10 ∷ rest) ≡ answer_of_input rest
+whole_answer front rest t read =
+    let forms = ap (λ x. map line_of (lines_of x)) (sym (behind_is front [])) ∙ read.forms in
+    let r = ended_said (parts_of front) read.said (parts_whole front) forms in
+    ap answer_of_input (behind_is front rest) ∙ answer_behind (parts_of front) r.said rest (parts_whole front) r.are
+
+nothing_before : (text : List ℕ) → answer_of_input text ≡ text → clauses_of_input text ≡ []
+nothing_before text e = let none : length text - length (answer_of_input text) ≡ 0 = let l = ap length e in omega (arith, l) in ap (λ n. take n text) none
+
+pub whole_accepted : (conflicts : ℕ) (bytes : List ℕ) (o : Output) (h : IsAnswered conflicts bytes o) → EndsWhole bytes → DueCheckMaxSat (bytes ++ o.text) (accepted_line h.answer)
+whole_accepted conflicts bytes o h (inl none) =
+    let text : List ℕ = max_text h.answer in
+    let answer = text_begins h.answer in
+    subst (λ x. DueCheckMaxSat x (accepted_line h.answer)) (sym h.written ∙ ap (λ x. x ++ o.text) (sym none))
+    (judged_behind conflicts bytes text o h (subst (λ x. IsRead (lines_of x) h.text) (none ∙ sym (nothing_before text answer)) h.read) answer)
+whole_accepted conflicts bytes o h (inr ends) =
+    let text : List ℕ = max_text h.answer in
+    let input : List ℕ = ends.0 ++ 10 ∷ text in
+    let read : IsRead (lines_of (ends.0 ++ 10 ∷ [])) h.text = subst (λ x. IsRead (lines_of x) h.text) ends.1 h.read in
+    let answer : answer_of_input input ≡ text = whole_answer ends.0 text h.text read ∙ text_begins h.answer in
+    let same : input ≡ bytes ++ o.text = sym (append_assoc ends.0 (10 ∷ []) text) ∙ ap (λ x. x ++ text) (sym ends.1) ∙ ap (λ x. bytes ++ x) (sym h.written) in
+    subst (λ x. DueCheckMaxSat x (accepted_line h.answer)) same
+    (judged_behind conflicts bytes input o h (subst (λ x. IsRead (lines_of x) h.text) (sym (clauses_are ends.0 text answer)) read) answer)
