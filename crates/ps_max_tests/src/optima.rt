@@ -5,7 +5,7 @@ use ps_wcnf::read_wcnf;
 use std::alloc::Global;
 use std::test::*;
 
-const CONFLICTS: u64 = 20_000;
+const CONFLICTS: u32 = 20_000;
 
 // Clauses with one optimum, its cost, and its assignment.
 const SINGLE: [(&str, i128, &[bool]); 7] = [
@@ -38,9 +38,9 @@ const UNSATISFIABLE: [&str; 3] = [
 const ALL_FOUR: &str = "h 1 2 0\nh 1 -2 0\nh -1 2 0\nh -1 -2 0\n";
 
 // The answer, where it is accepted.
-fn accepted_answer(alloc: Global, input: &str, conflicts: u64) -> Option<MaxAnswer> {
+fn accepted_answer(alloc: Global, input: &str, conflicts: u32) -> Option<MaxAnswer> {
     let text = read_wcnf(alloc, input.as_bytes()).ok()?;
-    let answer = optimum(alloc, &text, conflicts).ok()?;
+    let answer = optimum(alloc, &text, u64::from(conflicts)).ok()?;
     check_max(alloc, &text, &answer).ok()?;
     Some(answer)
 }
@@ -65,16 +65,17 @@ fn costs_least(alloc: Global, input: &str, least: i128) -> bool {
     }
 }
 
-fn is_unsatisfiable(alloc: Global, input: &str, conflicts: u64) -> bool {
+fn is_unsatisfiable(alloc: Global, input: &str, conflicts: u32) -> bool {
     match accepted_answer(alloc, input, conflicts) {
         Some(MaxAnswer::Unsatisfiable { .. }) => true,
         _ => false,
     }
 }
 
-fn is_open(alloc: Global, input: &str, conflicts: u64) -> bool {
+fn is_open(alloc: Global, input: &str, conflicts: u32) -> bool {
     match accepted_answer(alloc, input, conflicts) {
-        Some(MaxAnswer::Open { limit, best, .. }) => limit == conflicts && best.is_none(),
+        Some(MaxAnswer::Open { limit, best, .. }) => limit == u64::from(conflicts)
+            && best.is_none(),
         _ => false,
     }
 }
