@@ -15,7 +15,7 @@ _psat() {
     local command=${COMP_WORDS[1]} before=${COMP_WORDS[COMP_CWORD-1]} now=${COMP_WORDS[COMP_CWORD]}
     COMPREPLY=()
     if [ "$COMP_CWORD" -eq 1 ]; then
-        mapfile -t COMPREPLY < <(compgen -W 'solve explain check upgrade make' -- "$now")
+        mapfile -t COMPREPLY < <(compgen -W 'solve explain check upgrade maxsat check-maxsat make' -- "$now")
     elif [ "$before" = --pivots ]; then
         [ "$command" = make ] || mapfile -t COMPREPLY < <(compgen -W enough -- "$now")
     elif [ "$before" = --conflicts ] || [ "$before" = --bytes ]; then
@@ -23,7 +23,8 @@ _psat() {
     else
         case $command in
         solve | explain) _psat_options --pivots --conflicts ;;
-        check) _psat_options --bytes ;;
+        maxsat) _psat_options --conflicts ;;
+        check | check-maxsat) _psat_options --bytes ;;
         make) [ "$COMP_CWORD" -eq 2 ] || _psat_options --pivots --conflicts ;;
         esac
     fi

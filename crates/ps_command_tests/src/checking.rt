@@ -6,8 +6,8 @@ use std::test::*;
 
 const ACCEPTED: &str = "accepted: claims 1, open 0\n";
 
-pub const USAGE: &str =
-    "usage: psat solve|explain|check|upgrade|make N [--pivots N|enough] [--conflicts N] [--bytes N]\n";
+pub const USAGE: &str = "usage: psat solve|explain|check|upgrade|maxsat|check-maxsat|make N \
+                         [--pivots N|enough] [--conflicts N] [--bytes N]\n";
 
 pub const HALF: &str =
     "psat 1; P(a) = 1/2; end;\nreport 1\nconsistent\nmodel 2 2\nw 1 1\nw 1 0\nt 0\nend\n";

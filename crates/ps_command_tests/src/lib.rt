@@ -15,3 +15,5 @@ mod making;
 mod solving;
 #[cfg(test)]
 mod upgrading;
+#[cfg(test)]
+mod weighting;

@@ -29,12 +29,13 @@ use Rattle.ps_generation.specs.Phases.{AreLimits}
 use Rattle.ps_query.specs.Laws.{IsAnswered}
 use Rattle.ps_query.proofs.Reports.{written_text}
 use Rattle.ps_query.proofs.LawfulAnswers.{answer_settled}
-use Rattle.ps_commands.specs.declared.status.Status.TheVariants.{Unfinished}
+use Rattle.ps_messages.specs.declared.status.Status.TheVariants.{Unfinished}
 use Rattle.ps_commands.specs.declared.command.Command.TheVariants.{Check}
 use Rattle.ps_commands.specs.declared.checked.TheConstants.{MOST_SEARCHED}
 use Rattle.ps_commands.specs.declared.command.TheConstants.{MOST_PROBLEM}
 use Rattle.ps_commands.specs.RunLimits.{enough_for, limits_for}
-use Rattle.ps_commands.specs.Due.{Output, Accepted, ReadAs, Spelled, Within, DueFor, IsSolvedBy, accepted, report_of, searched, status_by, status_after}
+use Rattle.ps_commands.specs.Due.{Accepted, ReadAs, Spelled, Within, DueFor, IsSolvedBy, report_of, searched, status_by, status_after}
+use Rattle.ps_messages.specs.Lines.{Output, accepted}
 use Rattle.ps_commands.specs.Accepting.{IsReadable}
 use Rattle.ps_commands.proofs.Behind.{spelled_behind, drop_behind, take_behind}
 

@@ -7,13 +7,19 @@ use Rattle.ps_problem.specs.Problems.{Parts}
 use Rattle.ps_problem.specs.Written.{items_from}
 use Rattle.ps_canonical.specs.Lines.{upgraded_text}
 use Rattle.ps_runs.specs.declared.limits.Limits.{Limits}
+use Rattle.ps_max_commands.specs.Due.{DueMaxSat, DueCheckMaxSat, IsAnswered}
+use Rattle.ps_max_commands.proofs.OneDue.{answered_whole}
+use Rattle.ps_wcnf.specs.Readings.{IsRead}
+use Rattle.ps_wcnf.specs.Splitting.{lines_of}
+use Rattle.ps_wcnf.specs.declared.text.WcnfText.{WcnfText}
 use Rattle.ps_commands.specs.declared.command.Command.{Command}
 use Rattle.ps_commands.specs.declared.command.Command.TheVariants as commands
 use Rattle.ps_commands.specs.declared.command.TheConstants.{MOST_PROBLEM}
-use Rattle.ps_commands.specs.declared.status.Status.{Status}
-use Rattle.ps_commands.specs.declared.status.Status.TheVariants as status
+use Rattle.ps_messages.specs.declared.status.Status.{Status}
+use Rattle.ps_messages.specs.declared.status.Status.TheVariants as status
 use Rattle.ps_commands.specs.Commands.{Spell, words_of}
-use Rattle.ps_commands.specs.Due.{Output, DueReport, DueText, Spelled, NotRead, DueAnswered, Solved, NoProblem, DueExplained, Explains, NoneExplained, DueUpgraded, Upgraded, NoneUpgraded, DueMade, DueWithin, Within, TooLong, DueFor, Due, ForCommand, ForNone, searched}
+use Rattle.ps_commands.specs.Due.{DueReport, DueText, Spelled, NotRead, DueAnswered, Solved, NoProblem, DueExplained, Explains, NoneExplained, DueUpgraded, Upgraded, NoneUpgraded, DueMade, DueWithin, Within, TooLong, DueFor, Due, ForCommand, ForNone, searched}
+use Rattle.ps_messages.specs.Lines.{Output}
 use Rattle.ps_commands.specs.Runs.{Answered, CountsReads, CountsWrites, IsTold, IsGiven, Wrote}
 use Rattle.ps_commands.specs.Answering.{Ends, HasNotFailed, IsFaultless, IsOutOfMemory, HasWritten, IsExplained, IsSolved}
 use Rattle.ps_commands.proofs.CommandLaws.{one_command}
@@ -36,6 +42,8 @@ told (commands.Solve limits enough) left bytes e = e
 told (commands.Explain limits enough) left bytes e = e
 told (commands.Make n limits) left bytes e = tt
 told commands.Upgrade left bytes e = e
+told (commands.MaxSat n) left bytes e = e
+told (commands.CheckMaxSat n) left bytes e = e
 
 -- what is due for words is due for the command that they spell
 due_for : (words : List (List ℕ)) (c : Command) (bytes : List ℕ) (o : Output) → Spell words c → Due words bytes o → DueFor c bytes o
@@ -115,6 +123,19 @@ pub problem_upgraded : (words : List (String Global)) (old new : Ends) (s : Stat
 problem_upgraded words old new s bytes p spelled h e few spells =
     written_so words commands.Upgrade old new s bytes (λ o. o ≡ record { text = upgraded_text (items_from p); status = status.Done }) spelled h e
     (λ o due. upgraded_whole bytes p o spells (due_within MOST_PROBLEM DueUpgraded bytes o few due))
+
+pub clauses_answered : (words : List (String Global)) (conflicts : ℕ) (old new : Ends) (s : Status) (bytes : List ℕ) (t : WcnfText) → Spell (words_of words) (commands.MaxSat conflicts)
+    → IsFaultless words old new s → old.source.bytes ≡ Some bytes → length bytes ≤ MOST_PROBLEM → IsRead (lines_of bytes) t
+    → HasWritten (IsAnswered conflicts bytes) s old new ⊎ IsOutOfMemory s old new
+clauses_answered words conflicts old new s bytes t spelled h e few read =
+    written_so words (commands.MaxSat conflicts) old new s bytes (IsAnswered conflicts bytes) spelled h e
+    (λ o due. answered_whole conflicts bytes t o read (due_within MOST_PROBLEM (DueMaxSat conflicts) bytes o few due))
+
+pub answer_judged : (words : List (String Global)) (limit : ℕ) (old new : Ends) (s : Status) (bytes : List ℕ) → Spell (words_of words) (commands.CheckMaxSat limit)
+    → IsFaultless words old new s → old.source.bytes ≡ Some bytes → length bytes ≤ limit
+    → HasWritten (DueCheckMaxSat bytes) s old new ⊎ IsOutOfMemory s old new
+answer_judged words limit old new s bytes spelled h e few =
+    written_so words (commands.CheckMaxSat limit) old new s bytes (DueCheckMaxSat bytes) spelled h e (λ o due. due_within limit DueCheckMaxSat bytes o few due)
 
 -- whatever bytes a run is given that makes a problem
 pub problem_made : (words : List (String Global)) (links : ℕ) (limits : Limits) (old new : Ends) (s : Status) → Spell (words_of words) (commands.Make links limits) → IsFaultless words old new s

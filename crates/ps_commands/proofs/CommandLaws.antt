@@ -1,5 +1,5 @@
 -- Which words spell a command.
-use Rattle.std.proofs.Common.{◌≡◌, ◌≢◌, ◌⊎◌, inl, inr, ℕ, zero, suc, ◌^◌, ◌<◌, ◌≤◌, Bool, true, false, List, [], ◌∷◌, ◌++◌, length, All, Contains, get_or, drop, codes, Option, Some, None, String, string_bytes, refl, sym, ap, subst, ◌∙◌, arith}
+use Rattle.std.proofs.Common.{◌≡◌, ◌≢◌, ◌⊎◌, inl, inr, ℕ, zero, suc, ◌+◌, ◌^◌, ◌<◌, ◌≤◌, Bool, true, false, List, [], ◌∷◌, ◌++◌, length, All, Contains, get_or, drop, codes, Option, Some, None, String, string_bytes, refl, sym, ap, subst, ◌∙◌, arith}
 use Rattle.std.specs.declared.alloc.Global.{Global}
 use Rattle.std.specs.Prelude.{MatchOption}
 use Rattle.std.specs.Fmt.{decimal}
@@ -8,86 +8,108 @@ use Rattle.std.proofs.lemmas.List.Elements.{All-nil, All-cons}
 use Rattle.ps_runs.specs.declared.limits.Limits.{Limits}
 use Rattle.ps_generation.specs.Phases.{AreLimits}
 use Rattle.ps_commands.specs.declared.command.Command.{Command}
-use Rattle.ps_commands.specs.declared.command.Command.TheVariants.{Check, Explain, Make, Solve, Upgrade}
+use Rattle.ps_commands.specs.declared.command.Command.TheVariants.{Check, CheckMaxSat, Explain, Make, MaxSat, Solve, Upgrade}
 use Rattle.ps_commands.specs.declared.command.Limit.{Limit}
 use Rattle.ps_commands.specs.declared.command.Limit.TheVariants.{Bytes, Pivots, Conflicts}
 use Rattle.ps_commands.specs.declared.command.LimitValue.{LimitValue}
 use Rattle.ps_commands.specs.declared.command.LimitValue.TheVariants.{Number, Enough}
 use Rattle.ps_commands.specs.declared.command.RunSettings.{RunSettings}
-use Rattle.ps_commands.specs.declared.command.TheConstants.{DEFAULT_BYTES, MOST_BYTES, DEFAULT_PIVOTS}
+use Rattle.ps_commands.specs.declared.command.TheConstants.{DEFAULT_PIVOTS}
 use Rattle.ps_log.proofs.StepShapes.{head, tail}
-use Rattle.ps_commands.specs.Commands.{words_of, limit_word, value_word, MayBe, pivots_of, LimitSetting, setting_words, AreSettings, IsSetTo, AreWordsOf, SetRuns, SpellRuns, SpellMake, Spell, SpellNone}
-use Rattle.ps_commands.specs.Settings.{FindsNumber, SetNoRuns, SpellsNoLinks, is_enough, limits_by}
+use Rattle.ps_commands.specs.Commands.{words_of, limit_word, default_of, most_of, value_word, MayBe, pivots_of, LimitSetting, setting_words, AreSettings, IsSetTo, AreWordsOf, SetOne, SetRuns, SpellRuns, SpellMake, Spell, SpellNone}
+use Rattle.ps_commands.specs.Settings.{FindsNumber, FindsOne, SetsNoOne, SetNoRuns, SpellsNoLinks, is_enough, limits_by}
 use Rattle.ps_commands.specs.Replies.{AreLimitsOf}
 use Rattle.ps_commands.proofs.Settings.{one_value, settings-are, set-small, words_are}
 
--- ---- `check`
--- no limit is set
-pub default_spelled : Spell (codes "check" ∷ []) (Check DEFAULT_BYTES)
-default_spelled = (
-  record {
-    settings = [];
-    words_are = refl;
-    are = record { known = λ k d lt. absurd (omega arith); once = λ i j d lt less. absurd (omega arith); within = λ k d lt. absurd (omega arith) };
-  },
-  inr (λ k d lt. absurd (omega arith), refl),
-)
-
--- the limit is set
-abbrev set_to : ℕ → LimitSetting
-set_to n = record { limit = Bytes; value = Number n }
-
-alone : (P : LimitSetting → Type 0) (s : LimitSetting) → P s → All P (s ∷ [])
-alone P s p = All-cons P s [] p (All-nil P)
-
-pub set_spelled : (n : ℕ) → n ≤ MOST_BYTES → Spell (codes "check" ∷ codes "--bytes" ∷ decimal n ∷ []) (Check n)
-set_spelled n le = (
-  record {
-    settings = set_to n ∷ [];
-    words_are = refl;
-    are = record {
-      known = alone (λ s. Contains (Bytes ∷ []) s.limit) (set_to n) (0, omega arith, refl);
-      once = λ i j d lt less. absurd (omega arith);
-      within = alone (λ s. MayBe s.limit s.value) (set_to n) le;
-    };
-  },
-  inl (0, omega arith, refl),
-)
-
--- the words behind the command's name, and what they set
-pub data Behind (words : List (List ℕ)) (bytes : ℕ) : Type 0 where
-  Default : (none : words ≡ []) (is : bytes ≡ DEFAULT_BYTES) → Behind words bytes
-  Set : (set : words ≡ codes "--bytes" ∷ decimal bytes ∷ []) (within : bytes ≤ MOST_BYTES) → Behind words bytes
-
+-- ---- one limit
 pub same_number : (m n : ℕ) → Number m ≡ Number n → m ≡ n
 same_number m n e = cc
 
-only-bytes : (l : Limit) → Contains (Bytes ∷ []) l → l ≡ Bytes
-only-bytes l h = at h.0 h.1 h.2
-  where
-    at : (k : ℕ) → k < 1 → get_or (Bytes ∷ []) k l ≡ l → l ≡ Bytes
-    at zero lt e = sym e
-    at (suc k) lt e = absurd (omega arith)
+-- the words behind the command's name, and what they set the limit to
+pub data Behind (limit : Limit) (words : List (List ℕ)) (n : ℕ) : Type 0 where
+  Default : (none : words ≡ []) (is : n ≡ default_of limit) → Behind limit words n
+  Set : (set : words ≡ limit_word limit ∷ decimal n ∷ []) (within : n ≤ most_of limit) → Behind limit words n
 
-one_setting : (s : LimitSetting) (bytes k : ℕ) → k < 1 → get_or (s ∷ []) k (set_to bytes) ≡ set_to bytes → s ≡ set_to bytes
-one_setting s bytes zero lt e = e
-one_setting s bytes (suc k) lt e = absurd (omega arith)
+module _ (limit : Limit) where
+  -- no limit is set
+  pub one_default : SetOne [] limit (default_of limit) []
+  one_default = record {
+    spelled = record {
+      settings = [];
+      words_are = refl;
+      are = record { known = λ k d lt. absurd (omega arith); once = λ i j d lt less. absurd (omega arith); within = λ k d lt. absurd (omega arith) };
+    };
+    value_is = inr (λ k d lt. absurd (omega arith), refl);
+  }
 
-behind : (words : List (List ℕ)) (bytes : ℕ) (ss : List LimitSetting) → words ≡ setting_words ss → AreSettings (Bytes ∷ []) ss → IsSetTo ss Bytes (Number bytes) → Behind words bytes
-behind words bytes [] e are (inl h) = absurd (omega (arith, h.1))
-behind words bytes [] e are (inr h) = Default e (same_number bytes DEFAULT_BYTES h.1)
-behind words bytes (s ∷ []) e are h = by (only-bytes s.limit (are.known 0 s (omega arith))) h
-  where
-    by : s.limit ≡ Bytes → IsSetTo (s ∷ []) Bytes (Number bytes) → Behind words bytes
-    by l (inl h) =
-        let is = one_setting s bytes h.0 h.1 h.2 in
-        Set (e ∙ ap (λ (x : LimitSetting). limit_word x.limit ∷ value_word x.value ∷ []) is) (subst (λ (x : LimitSetting). MayBe x.limit x.value) is (are.within 0 s (omega arith)))
-    by l (inr h) = absurd (h.0 0 s (omega arith) l)
-behind words bytes (s ∷ t ∷ ss) e are h =
-    absurd (are.once 0 1 s (omega arith) (omega arith) (only-bytes s.limit (are.known 0 s (omega arith)) ∙ sym (only-bytes t.limit (are.known 1 s (omega arith)))))
+  -- the limit is set
+  abbrev set_to : ℕ → LimitSetting
+  set_to n = record { limit = limit; value = Number n }
 
-pub behind_check : (words : List (List ℕ)) (bytes : ℕ) → Spell (codes "check" ∷ words) (Check bytes) → Behind words bytes
-behind_check words bytes h = behind words bytes h.0.settings (tail _ _ words (setting_words h.0.settings) h.0.words_are) h.0.are h.1
+  alone : (P : LimitSetting → Type 0) (s : LimitSetting) → P s → All P (s ∷ [])
+  alone P s p = All-cons P s [] p (All-nil P)
+
+  pub one_set_to : (n : ℕ) → n ≤ most_of limit → SetOne [] limit n (limit_word limit ∷ decimal n ∷ [])
+  one_set_to n le = record {
+    spelled = record {
+      settings = set_to n ∷ [];
+      words_are = refl;
+      are = record {
+        known = alone (λ s. Contains (limit ∷ []) s.limit) (set_to n) (0, omega arith, refl);
+        once = λ i j d lt less. absurd (omega arith);
+        within = alone (λ s. MayBe s.limit s.value) (set_to n) le;
+      };
+    };
+    value_is = inl (0, omega arith, refl);
+  }
+
+  only_limit : (l : Limit) → Contains (limit ∷ []) l → l ≡ limit
+  only_limit l h = at h.0 h.1 h.2
+    where
+      at : (k : ℕ) → k < 1 → get_or (limit ∷ []) k l ≡ l → l ≡ limit
+      at zero lt e = sym e
+      at (suc k) lt e = absurd (omega arith)
+
+  one_setting : (s : LimitSetting) (n k : ℕ) → k < 1 → get_or (s ∷ []) k (set_to n) ≡ set_to n → s ≡ set_to n
+  one_setting s n zero lt e = e
+  one_setting s n (suc k) lt e = absurd (omega arith)
+
+  behind : (words : List (List ℕ)) (n : ℕ) (ss : List LimitSetting) → words ≡ setting_words ss → AreSettings (limit ∷ []) ss → IsSetTo ss limit (Number n) → Behind limit words n
+  behind words n [] e are (inl h) = absurd (omega (arith, h.1))
+  behind words n [] e are (inr h) = Default e (same_number n (default_of limit) h.1)
+  behind words n (s ∷ []) e are h = by (only_limit s.limit (are.known 0 s (omega arith))) h
+    where
+      by : s.limit ≡ limit → IsSetTo (s ∷ []) limit (Number n) → Behind limit words n
+      by l (inl h) =
+          let is = one_setting s n h.0 h.1 h.2 in
+          Set (e ∙ ap (λ (x : LimitSetting). limit_word x.limit ∷ value_word x.value ∷ []) is) (subst (λ (x : LimitSetting). MayBe x.limit x.value) is (are.within 0 s (omega arith)))
+      by l (inr h) = absurd (h.0 0 s (omega arith) l)
+  behind words n (s ∷ t ∷ ss) e are h =
+      absurd (are.once 0 1 s (omega arith) (omega arith) (only_limit s.limit (are.known 0 s (omega arith)) ∙ sym (only_limit t.limit (are.known 1 s (omega arith)))))
+
+  behind_one : (words : List (List ℕ)) (n : ℕ) → SetOne [] limit n words → Behind limit words n
+  behind_one words n h = behind words n h.spelled.settings h.spelled.words_are h.spelled.are h.value_is
+
+  behind-shape : (words : List (List ℕ)) (n : ℕ) → Behind limit words n → (length words ≡ 0) ⊎ (length words ≡ 2)
+  behind-shape words n (Default e p) = inl (ap length e)
+  behind-shape words n (Set e le) = inr (ap length e)
+
+  -- what two words set
+  pub two_found : (word digits : List ℕ) (r : Option ℕ) → FindsNumber word digits limit r → FindsOne limit (word ∷ digits ∷ []) r
+  two_found word digits (Some n) h = subst (λ (ws : List (List ℕ)). SetOne [] limit n ws) (sym (words_are word digits limit (Number n) h)) (one_set_to n h.within)
+  two_found word digits None h = record { none = λ n g. not n (behind_one (word ∷ digits ∷ []) n g) }
+    where
+      not : (n : ℕ) → Behind limit (word ∷ digits ∷ []) n → ⊥
+      not n (Default e p) = omega (arith, ap length e)
+      not n (Set e le) = h.none n (record { word_is = head _ _ _ _ e; value_is = head _ _ _ _ (tail _ _ _ _ e); within = le })
+
+  -- more than two words set nothing, nor does one
+  pub others_unset : (words : List (List ℕ)) → length words ≢ 0 → length words ≢ 2 → SetsNoOne limit words
+  others_unset words some not_two = record { none = λ n g. not (behind-shape words n (behind_one words n g)) }
+    where
+      not : (length words ≡ 0) ⊎ (length words ≡ 2) → ⊥
+      not (inl e) = some e
+      not (inr e) = not_two e
 
 -- ---- the command's name
 abbrev pub name_of : Command → List ℕ
@@ -96,14 +118,18 @@ name_of (Solve limits enough) = codes "solve"
 name_of (Explain limits enough) = codes "explain"
 name_of (Make n limits) = codes "make"
 name_of Upgrade = codes "upgrade"
+name_of (MaxSat n) = codes "maxsat"
+name_of (CheckMaxSat n) = codes "check-maxsat"
 
 -- the words begin with it
 named : (words : List (List ℕ)) (c : Command) → Spell words c → (rest : List (List ℕ)) × (words ≡ name_of c ∷ rest)
-named words (Check n) h = (setting_words h.0.settings, h.0.words_are)
+named words (Check n) h = (setting_words h.spelled.settings, h.spelled.words_are)
 named words (Solve limits enough) h = (setting_words h.set.spelled.settings, h.set.spelled.words_are)
 named words (Explain limits enough) h = (setting_words h.set.spelled.settings, h.set.spelled.words_are)
 named words (Make n limits) h = (decimal n ∷ setting_words h.set.spelled.settings, h.set.spelled.words_are)
 named words Upgrade h = ([], h)
+named words (MaxSat n) h = (setting_words h.spelled.settings, h.spelled.words_are)
+named words (CheckMaxSat n) h = (setting_words h.spelled.settings, h.spelled.words_are)
 
 pub name-is : (name : List ℕ) (words : List (List ℕ)) (c : Command) → Spell (name ∷ words) c → name ≡ name_of c
 name-is name words c h = let n = named (name ∷ words) c h in head name (name_of c) words n.0 n.1
@@ -111,15 +137,16 @@ name-is name words c h = let n = named (name ∷ words) c h in head name (name_o
 pub no_words : (c : Command) → ¬ Spell [] c
 no_words c h = let n = named [] c h in let e = n.1 in absurd (cc)
 
-unfoldable pub first_of : List ℕ → ℕ
-first_of w = get_or w 0 0
+-- the names are told apart by their first letter and their length
+unfoldable pub mark_of : List ℕ → ℕ
+mark_of w = get_or w 0 0 + length w
 
 -- commands of other names aren't spelled by the same words
-apart : (words : List (List ℕ)) (c d : Command) → (first_of (name_of c) ≢ first_of (name_of d)) → Spell words c → Spell words d → ⊥
+apart : (words : List (List ℕ)) (c d : Command) → (mark_of (name_of c) ≢ mark_of (name_of d)) → Spell words c → Spell words d → ⊥
 apart words c d other g h =
     let a = named words c g in
     let b = named words d h in
-    other (ap first_of (head (name_of c) (name_of d) a.0 b.0 (sym a.1 ∙ b.1)))
+    other (ap mark_of (head (name_of c) (name_of d) a.0 b.0 (sym a.1 ∙ b.1)))
 
 -- words behind a name that spell no command of this name spell none
 pub name_none : (name : List ℕ) (words : List (List ℕ)) → ((c : Command) → name ≡ name_of c → ¬ Spell (name ∷ words) c) → SpellNone (name ∷ words)
@@ -127,8 +154,8 @@ name_none name words not = record { none = λ c h. not c (name-is name words c h
 
 -- words that no command has a name for
 pub unnamed : (name : List ℕ) (words : List (List ℕ)) → ¬ (name ≡ codes "solve") → ¬ (name ≡ codes "explain") → ¬ (name ≡ codes "make") → ¬ (name ≡ codes "check") → ¬ (name ≡ codes "upgrade")
-    → SpellNone (name ∷ words)
-unnamed name words p q r t u = name_none name words by
+    → ¬ (name ≡ codes "maxsat") → ¬ (name ≡ codes "check-maxsat") → SpellNone (name ∷ words)
+unnamed name words p q r t u v w = name_none name words by
   where
     by : (c : Command) → name ≡ name_of c → ¬ Spell (name ∷ words) c
     by (Check n) e h = t e
@@ -136,6 +163,8 @@ unnamed name words p q r t u = name_none name words by
     by (Explain limits enough) e h = q e
     by (Make n limits) e h = r e
     by Upgrade e h = u e
+    by (MaxSat n) e h = v e
+    by (CheckMaxSat n) e h = w e
 
 -- ---- words spell one command
 one_limits : (l m : Limits) → l.pivots ≡ m.pivots → l.conflicts ≡ m.conflicts → l ≡ m
@@ -186,37 +215,65 @@ one_made words n m l k a b = by (decimal_injective n m (let few = a.few in omega
         let same = one_set (codes "make" ∷ decimal m ∷ []) words (Number l.pivots) (Number k.pivots) l.conflicts k.conflicts first.set b.set in
         ap (λ (x : ℕ). Make x l) e ∙ ap (λ (x : Limits). Make m x) (one_limits l k (same_number l.pivots k.pivots same.0) same.1)
 
+-- the one limit is set to one value
+one_once : (name : List ℕ) (limit : Limit) (m n : ℕ) (words : List (List ℕ)) → SetOne (name ∷ []) limit m words → SetOne (name ∷ []) limit n words → m ≡ n
+one_once name limit m n words a b =
+    let same = same_settings (name ∷ []) (limit ∷ []) words a.spelled b.spelled in
+    same_number m n (one_value a.spelled.settings a.spelled.are.once limit (Number m) (Number n) a.value_is (subst (λ (ss : List LimitSetting). IsSetTo ss limit (Number n)) same b.value_is))
+
 pub one_command : (words : List (List ℕ)) (c d : Command) → Spell words c → Spell words d → c ≡ d
-unfolding first_of
-one_command words (Check m) (Check n) a b =
-    let same = same_settings (codes "check" ∷ []) (Bytes ∷ []) words a.0 b.0 in
-    ap Check (same_number m n (one_value a.0.settings a.0.are.once Bytes (Number m) (Number n) a.1 (subst (λ (ss : List LimitSetting). IsSetTo ss Bytes (Number n)) same b.1)))
+unfolding mark_of
+one_command words (Check m) (Check n) a b = ap Check (one_once (codes "check") Bytes m n words a b)
+one_command words (MaxSat m) (MaxSat n) a b = ap MaxSat (one_once (codes "maxsat") Conflicts m n words a b)
+one_command words (CheckMaxSat m) (CheckMaxSat n) a b = ap CheckMaxSat (one_once (codes "check-maxsat") Bytes m n words a b)
 one_command words (Solve l e) (Solve m f) a b =
     let same = one_runs (codes "solve") l m e f words a b in ap (λ (x : Limits). Solve x e) same.0 ∙ ap (λ (x : Bool). Solve m x) same.1
 one_command words (Explain l e) (Explain m f) a b =
     let same = one_runs (codes "explain") l m e f words a b in ap (λ (x : Limits). Explain x e) same.0 ∙ ap (λ (x : Bool). Explain m x) same.1
 one_command words (Make n l) (Make m k) a b = one_made words n m l k a b
 one_command words Upgrade Upgrade a b = refl
-one_command words (Check m) (Solve l e) a b = absurd (apart words (Check m) (Solve l e) (λ x. omega (arith, x)) a b)
-one_command words (Check m) (Explain l e) a b = absurd (apart words (Check m) (Explain l e) (λ x. omega (arith, x)) a b)
-one_command words (Check m) (Make n l) a b = absurd (apart words (Check m) (Make n l) (λ x. omega (arith, x)) a b)
-one_command words (Solve l e) (Check m) a b = absurd (apart words (Solve l e) (Check m) (λ x. omega (arith, x)) a b)
-one_command words (Solve l e) (Explain k f) a b = absurd (apart words (Solve l e) (Explain k f) (λ x. omega (arith, x)) a b)
-one_command words (Solve l e) (Make n k) a b = absurd (apart words (Solve l e) (Make n k) (λ x. omega (arith, x)) a b)
-one_command words (Explain l e) (Check m) a b = absurd (apart words (Explain l e) (Check m) (λ x. omega (arith, x)) a b)
-one_command words (Explain l e) (Solve k f) a b = absurd (apart words (Explain l e) (Solve k f) (λ x. omega (arith, x)) a b)
-one_command words (Explain l e) (Make n k) a b = absurd (apart words (Explain l e) (Make n k) (λ x. omega (arith, x)) a b)
-one_command words (Make n l) (Check m) a b = absurd (apart words (Make n l) (Check m) (λ x. omega (arith, x)) a b)
-one_command words (Make n l) (Solve k f) a b = absurd (apart words (Make n l) (Solve k f) (λ x. omega (arith, x)) a b)
-one_command words (Make n l) (Explain k f) a b = absurd (apart words (Make n l) (Explain k f) (λ x. omega (arith, x)) a b)
-one_command words Upgrade (Check m) a b = absurd (apart words Upgrade (Check m) (λ x. omega (arith, x)) a b)
-one_command words Upgrade (Solve l e) a b = absurd (apart words Upgrade (Solve l e) (λ x. omega (arith, x)) a b)
-one_command words Upgrade (Explain l e) a b = absurd (apart words Upgrade (Explain l e) (λ x. omega (arith, x)) a b)
-one_command words Upgrade (Make n l) a b = absurd (apart words Upgrade (Make n l) (λ x. omega (arith, x)) a b)
+one_command words (Check m) (Solve k f) a b = absurd (apart words (Check m) (Solve k f) (λ x. omega (arith, x)) a b)
+one_command words (Check m) (Explain k f) a b = absurd (apart words (Check m) (Explain k f) (λ x. omega (arith, x)) a b)
+one_command words (Check m) (Make j k) a b = absurd (apart words (Check m) (Make j k) (λ x. omega (arith, x)) a b)
 one_command words (Check m) Upgrade a b = absurd (apart words (Check m) Upgrade (λ x. omega (arith, x)) a b)
+one_command words (Check m) (MaxSat n) a b = absurd (apart words (Check m) (MaxSat n) (λ x. omega (arith, x)) a b)
+one_command words (Check m) (CheckMaxSat n) a b = absurd (apart words (Check m) (CheckMaxSat n) (λ x. omega (arith, x)) a b)
+one_command words (Solve l e) (Check n) a b = absurd (apart words (Solve l e) (Check n) (λ x. omega (arith, x)) a b)
+one_command words (Solve l e) (Explain k f) a b = absurd (apart words (Solve l e) (Explain k f) (λ x. omega (arith, x)) a b)
+one_command words (Solve l e) (Make j k) a b = absurd (apart words (Solve l e) (Make j k) (λ x. omega (arith, x)) a b)
 one_command words (Solve l e) Upgrade a b = absurd (apart words (Solve l e) Upgrade (λ x. omega (arith, x)) a b)
+one_command words (Solve l e) (MaxSat n) a b = absurd (apart words (Solve l e) (MaxSat n) (λ x. omega (arith, x)) a b)
+one_command words (Solve l e) (CheckMaxSat n) a b = absurd (apart words (Solve l e) (CheckMaxSat n) (λ x. omega (arith, x)) a b)
+one_command words (Explain l e) (Check n) a b = absurd (apart words (Explain l e) (Check n) (λ x. omega (arith, x)) a b)
+one_command words (Explain l e) (Solve k f) a b = absurd (apart words (Explain l e) (Solve k f) (λ x. omega (arith, x)) a b)
+one_command words (Explain l e) (Make j k) a b = absurd (apart words (Explain l e) (Make j k) (λ x. omega (arith, x)) a b)
 one_command words (Explain l e) Upgrade a b = absurd (apart words (Explain l e) Upgrade (λ x. omega (arith, x)) a b)
-one_command words (Make n l) Upgrade a b = absurd (apart words (Make n l) Upgrade (λ x. omega (arith, x)) a b)
+one_command words (Explain l e) (MaxSat n) a b = absurd (apart words (Explain l e) (MaxSat n) (λ x. omega (arith, x)) a b)
+one_command words (Explain l e) (CheckMaxSat n) a b = absurd (apart words (Explain l e) (CheckMaxSat n) (λ x. omega (arith, x)) a b)
+one_command words (Make i l) (Check n) a b = absurd (apart words (Make i l) (Check n) (λ x. omega (arith, x)) a b)
+one_command words (Make i l) (Solve k f) a b = absurd (apart words (Make i l) (Solve k f) (λ x. omega (arith, x)) a b)
+one_command words (Make i l) (Explain k f) a b = absurd (apart words (Make i l) (Explain k f) (λ x. omega (arith, x)) a b)
+one_command words (Make i l) Upgrade a b = absurd (apart words (Make i l) Upgrade (λ x. omega (arith, x)) a b)
+one_command words (Make i l) (MaxSat n) a b = absurd (apart words (Make i l) (MaxSat n) (λ x. omega (arith, x)) a b)
+one_command words (Make i l) (CheckMaxSat n) a b = absurd (apart words (Make i l) (CheckMaxSat n) (λ x. omega (arith, x)) a b)
+one_command words Upgrade (Check n) a b = absurd (apart words Upgrade (Check n) (λ x. omega (arith, x)) a b)
+one_command words Upgrade (Solve k f) a b = absurd (apart words Upgrade (Solve k f) (λ x. omega (arith, x)) a b)
+one_command words Upgrade (Explain k f) a b = absurd (apart words Upgrade (Explain k f) (λ x. omega (arith, x)) a b)
+one_command words Upgrade (Make j k) a b = absurd (apart words Upgrade (Make j k) (λ x. omega (arith, x)) a b)
+one_command words Upgrade (MaxSat n) a b = absurd (apart words Upgrade (MaxSat n) (λ x. omega (arith, x)) a b)
+one_command words Upgrade (CheckMaxSat n) a b = absurd (apart words Upgrade (CheckMaxSat n) (λ x. omega (arith, x)) a b)
+one_command words (MaxSat m) (Check n) a b = absurd (apart words (MaxSat m) (Check n) (λ x. omega (arith, x)) a b)
+one_command words (MaxSat m) (Solve k f) a b = absurd (apart words (MaxSat m) (Solve k f) (λ x. omega (arith, x)) a b)
+one_command words (MaxSat m) (Explain k f) a b = absurd (apart words (MaxSat m) (Explain k f) (λ x. omega (arith, x)) a b)
+one_command words (MaxSat m) (Make j k) a b = absurd (apart words (MaxSat m) (Make j k) (λ x. omega (arith, x)) a b)
+one_command words (MaxSat m) Upgrade a b = absurd (apart words (MaxSat m) Upgrade (λ x. omega (arith, x)) a b)
+one_command words (MaxSat m) (CheckMaxSat n) a b = absurd (apart words (MaxSat m) (CheckMaxSat n) (λ x. omega (arith, x)) a b)
+one_command words (CheckMaxSat m) (Check n) a b = absurd (apart words (CheckMaxSat m) (Check n) (λ x. omega (arith, x)) a b)
+one_command words (CheckMaxSat m) (Solve k f) a b = absurd (apart words (CheckMaxSat m) (Solve k f) (λ x. omega (arith, x)) a b)
+one_command words (CheckMaxSat m) (Explain k f) a b = absurd (apart words (CheckMaxSat m) (Explain k f) (λ x. omega (arith, x)) a b)
+one_command words (CheckMaxSat m) (Make j k) a b = absurd (apart words (CheckMaxSat m) (Make j k) (λ x. omega (arith, x)) a b)
+one_command words (CheckMaxSat m) Upgrade a b = absurd (apart words (CheckMaxSat m) Upgrade (λ x. omega (arith, x)) a b)
+one_command words (CheckMaxSat m) (MaxSat n) a b = absurd (apart words (CheckMaxSat m) (MaxSat n) (λ x. omega (arith, x)) a b)
 
 -- the limits that words spell are within theirs
 set_limits : (front words : List (List ℕ)) (l : Limits) → SetRuns front (Number l.pivots) l.conflicts words → AreLimits l
@@ -237,6 +294,8 @@ spelled_limits words (Check n) h = tt
 spelled_limits words (Solve l e) h = runs_limits (codes "solve") words l e h
 spelled_limits words (Explain l e) h = runs_limits (codes "explain") words l e h
 spelled_limits words Upgrade h = tt
+spelled_limits words (MaxSat n) h = set-small h.spelled.settings h.spelled.are.within Conflicts (Number n) h.value_is
+spelled_limits words (CheckMaxSat n) h = tt
 spelled_limits words (Make n l) h = record { some = h.some; few = h.few; limits_are = set_limits (codes "make" ∷ decimal n ∷ []) words l h.set }
 
 -- ---- settings of runs behind words
@@ -272,11 +331,11 @@ explain_spelled words s l e h p q =
     (subst (λ (b : Bool). SpellRuns (codes "explain") (limits_by s.pivots s.conflicts) b (codes "explain" ∷ words)) (sym q) (runs_spelled (codes "explain") words s.pivots s.conflicts h))
 
 -- a command of another name
-pub other : (a b : List ℕ) → first_of a ≢ first_of b → a ≢ b
-other a b differ e = differ (ap first_of e)
+pub other : (a b : List ℕ) → mark_of a ≢ mark_of b → a ≢ b
+other a b differ e = differ (ap mark_of e)
 
 pub solve_unspelled : (words : List (List ℕ)) → SetNoRuns words → SpellNone (codes "solve" ∷ words)
-unfolding first_of
+unfolding mark_of
 solve_unspelled words not = name_none (codes "solve") words by
   where
     by : (c : Command) → codes "solve" ≡ name_of c → ¬ Spell (codes "solve" ∷ words) c
@@ -285,9 +344,11 @@ solve_unspelled words not = name_none (codes "solve") words by
     by (Explain l e) is h = other (codes "solve") (codes "explain") (λ x. omega (arith, x)) is
     by (Make n l) is h = other (codes "solve") (codes "make") (λ x. omega (arith, x)) is
     by Upgrade is h = other (codes "solve") (codes "upgrade") (λ x. omega (arith, x)) is
+    by (MaxSat n) is h = other (codes "solve") (codes "maxsat") (λ x. omega (arith, x)) is
+    by (CheckMaxSat n) is h = other (codes "solve") (codes "check-maxsat") (λ x. omega (arith, x)) is
 
 pub explain_unspelled : (words : List (List ℕ)) → SetNoRuns words → SpellNone (codes "explain" ∷ words)
-unfolding first_of
+unfolding mark_of
 explain_unspelled words not = name_none (codes "explain") words by
   where
     by : (c : Command) → codes "explain" ≡ name_of c → ¬ Spell (codes "explain" ∷ words) c
@@ -296,13 +357,15 @@ explain_unspelled words not = name_none (codes "explain") words by
     by (Solve l e) is h = other (codes "explain") (codes "solve") (λ x. omega (arith, x)) is
     by (Make n l) is h = other (codes "explain") (codes "make") (λ x. omega (arith, x)) is
     by Upgrade is h = other (codes "explain") (codes "upgrade") (λ x. omega (arith, x)) is
+    by (MaxSat n) is h = other (codes "explain") (codes "maxsat") (λ x. omega (arith, x)) is
+    by (CheckMaxSat n) is h = other (codes "explain") (codes "check-maxsat") (λ x. omega (arith, x)) is
 
 -- `upgrade` has no words behind it
 pub upgrade_spelled : (words : List (List ℕ)) → words ≡ [] → Spell (codes "upgrade" ∷ words) Upgrade
 upgrade_spelled words e = ap (λ (ws : List (List ℕ)). codes "upgrade" ∷ ws) e
 
 pub upgrade_unspelled : (words : List (List ℕ)) → 1 ≤ length words → SpellNone (codes "upgrade" ∷ words)
-unfolding first_of
+unfolding mark_of
 upgrade_unspelled words some = name_none (codes "upgrade") words by
   where
     by : (c : Command) → codes "upgrade" ≡ name_of c → ¬ Spell (codes "upgrade" ∷ words) c
@@ -311,6 +374,8 @@ upgrade_unspelled words some = name_none (codes "upgrade") words by
     by (Solve l e) is h = other (codes "upgrade") (codes "solve") (λ x. omega (arith, x)) is
     by (Explain l e) is h = other (codes "upgrade") (codes "explain") (λ x. omega (arith, x)) is
     by (Make n l) is h = other (codes "upgrade") (codes "make") (λ x. omega (arith, x)) is
+    by (MaxSat n) is h = other (codes "upgrade") (codes "maxsat") (λ x. omega (arith, x)) is
+    by (CheckMaxSat n) is h = other (codes "upgrade") (codes "check-maxsat") (λ x. omega (arith, x)) is
 
 -- ---- the words of strings
 pub words-empty : (xs : List (String Global)) → length xs ≡ 0 → words_of xs ≡ []
@@ -323,45 +388,71 @@ words-two (a ∷ []) x y e p q = absurd (omega arith)
 words-two (a ∷ b ∷ []) x y e p q = cc
 words-two (a ∷ b ∷ c ∷ xs) x y e p q = absurd (omega arith)
 
-pub behind-shape : (words : List (List ℕ)) (n : ℕ) → Behind words n → (length words ≡ 0) ⊎ (length words ≡ 2)
-behind-shape words n (Default e p) = inl (ap length e)
-behind-shape words n (Set e le) = inr (ap length e)
-
 -- a word spells no number up to a limit: what it is read as is past the limit, or spelled otherwise
 pub none_spelled : (r : Option ℕ) (word : List ℕ) (most : ℕ) → most < 2 ^ 64 → ((n : ℕ) → n < 2 ^ 64 → word ≡ decimal n → r ≡ Some n)
     → ((n : ℕ) → r ≡ Some n → n ≤ most → word ≡ decimal n → ⊥) → (n : ℕ) → n ≤ most → word ≡ decimal n → ⊥
 none_spelled r word most fits reads not n le e = not n (reads n (omega arith) e) le e
 
--- words that spell no command of their own name spell none
-pub check_unspelled : (words : List (List ℕ)) → ((n : ℕ) → ¬ Behind words n) → SpellNone (codes "check" ∷ words)
-unfolding first_of
+-- ---- the one limit of a command
+one_behind : (name : List ℕ) (limit : Limit) (n : ℕ) (words : List (List ℕ)) → SetOne [] limit n words → SetOne (name ∷ []) limit n (name ∷ words)
+one_behind name limit n words h = record {
+  spelled = record { settings = h.spelled.settings; words_are = ap (λ (ws : List (List ℕ)). name ∷ ws) h.spelled.words_are; are = h.spelled.are };
+  value_is = h.value_is;
+}
+
+one_alone : (name : List ℕ) (limit : Limit) (n : ℕ) (words : List (List ℕ)) → SetOne (name ∷ []) limit n (name ∷ words) → SetOne [] limit n words
+one_alone name limit n words h = record {
+  spelled = record { settings = h.spelled.settings; words_are = tail name name words (setting_words h.spelled.settings) h.spelled.words_are; are = h.spelled.are };
+  value_is = h.value_is;
+}
+
+pub check_spelled : (words : List (List ℕ)) (n : ℕ) → SetOne [] Bytes n words → Spell (codes "check" ∷ words) (Check n)
+check_spelled words n h = one_behind (codes "check") Bytes n words h
+
+pub check_unspelled : (words : List (List ℕ)) → SetsNoOne Bytes words → SpellNone (codes "check" ∷ words)
+unfolding mark_of
 check_unspelled words not = name_none (codes "check") words by
   where
     by : (c : Command) → codes "check" ≡ name_of c → ¬ Spell (codes "check" ∷ words) c
-    by (Check n) is h = not n (behind_check words n h)
+    by (Check n) is h = not.none n (one_alone (codes "check") Bytes n words h)
     by (Solve l e) is h = other (codes "check") (codes "solve") (λ x. omega (arith, x)) is
     by (Explain l e) is h = other (codes "check") (codes "explain") (λ x. omega (arith, x)) is
     by (Make n l) is h = other (codes "check") (codes "make") (λ x. omega (arith, x)) is
     by Upgrade is h = other (codes "check") (codes "upgrade") (λ x. omega (arith, x)) is
+    by (MaxSat n) is h = other (codes "check") (codes "maxsat") (λ x. omega (arith, x)) is
+    by (CheckMaxSat n) is h = other (codes "check") (codes "check-maxsat") (λ x. omega (arith, x)) is
 
--- what two words behind the command's name set
-pub two_spelled : (word digits : List ℕ) (r : Option ℕ) → FindsNumber word digits Bytes r
-    → MatchOption r (SpellNone (codes "check" ∷ word ∷ digits ∷ [])) (λ n. Spell (codes "check" ∷ word ∷ digits ∷ []) (Check n))
-two_spelled word digits (Some n) h =
-    subst (λ (ws : List (List ℕ)). Spell (codes "check" ∷ ws) (Check n)) (sym (words_are word digits Bytes (Number n) h)) (set_spelled n h.within)
-two_spelled word digits None h = check_unspelled (word ∷ digits ∷ []) not
-  where
-    not : (n : ℕ) → Behind (word ∷ digits ∷ []) n → ⊥
-    not n (Default e p) = omega (arith, ap length e)
-    not n (Set e le) = h.none n (record { word_is = head _ _ _ _ e; value_is = head _ _ _ _ (tail _ _ _ _ e); within = le })
+pub maxsat_spelled : (words : List (List ℕ)) (n : ℕ) → SetOne [] Conflicts n words → Spell (codes "maxsat" ∷ words) (MaxSat n)
+maxsat_spelled words n h = one_behind (codes "maxsat") Conflicts n words h
 
--- more than two words set nothing
-pub long_unspelled : (words : List (List ℕ)) → 3 ≤ length words → SpellNone (codes "check" ∷ words)
-long_unspelled words long = check_unspelled words (λ n b. not (behind-shape words n b))
+pub maxsat_unspelled : (words : List (List ℕ)) → SetsNoOne Conflicts words → SpellNone (codes "maxsat" ∷ words)
+unfolding mark_of
+maxsat_unspelled words not = name_none (codes "maxsat") words by
   where
-    not : (length words ≡ 0) ⊎ (length words ≡ 2) → ⊥
-    not (inl e) = omega (arith, e)
-    not (inr e) = omega (arith, e)
+    by : (c : Command) → codes "maxsat" ≡ name_of c → ¬ Spell (codes "maxsat" ∷ words) c
+    by (MaxSat n) is h = not.none n (one_alone (codes "maxsat") Conflicts n words h)
+    by (Check n) is h = other (codes "maxsat") (codes "check") (λ x. omega (arith, x)) is
+    by (Solve l e) is h = other (codes "maxsat") (codes "solve") (λ x. omega (arith, x)) is
+    by (Explain l e) is h = other (codes "maxsat") (codes "explain") (λ x. omega (arith, x)) is
+    by (Make n l) is h = other (codes "maxsat") (codes "make") (λ x. omega (arith, x)) is
+    by Upgrade is h = other (codes "maxsat") (codes "upgrade") (λ x. omega (arith, x)) is
+    by (CheckMaxSat n) is h = other (codes "maxsat") (codes "check-maxsat") (λ x. omega (arith, x)) is
+
+pub check_maxsat_spelled : (words : List (List ℕ)) (n : ℕ) → SetOne [] Bytes n words → Spell (codes "check-maxsat" ∷ words) (CheckMaxSat n)
+check_maxsat_spelled words n h = one_behind (codes "check-maxsat") Bytes n words h
+
+pub check_maxsat_unspelled : (words : List (List ℕ)) → SetsNoOne Bytes words → SpellNone (codes "check-maxsat" ∷ words)
+unfolding mark_of
+check_maxsat_unspelled words not = name_none (codes "check-maxsat") words by
+  where
+    by : (c : Command) → codes "check-maxsat" ≡ name_of c → ¬ Spell (codes "check-maxsat" ∷ words) c
+    by (CheckMaxSat n) is h = not.none n (one_alone (codes "check-maxsat") Bytes n words h)
+    by (Check n) is h = other (codes "check-maxsat") (codes "check") (λ x. omega (arith, x)) is
+    by (Solve l e) is h = other (codes "check-maxsat") (codes "solve") (λ x. omega (arith, x)) is
+    by (Explain l e) is h = other (codes "check-maxsat") (codes "explain") (λ x. omega (arith, x)) is
+    by (Make n l) is h = other (codes "check-maxsat") (codes "make") (λ x. omega (arith, x)) is
+    by Upgrade is h = other (codes "check-maxsat") (codes "upgrade") (λ x. omega (arith, x)) is
+    by (MaxSat n) is h = other (codes "check-maxsat") (codes "maxsat") (λ x. omega (arith, x)) is
 
 -- the command's name, and the words behind it
 pub named_spelled : (c : Command) (name : List ℕ) (xs rest : List (String Global)) (x : String Global) → 1 ≤ length xs → x ≡ get_or xs 0 x → string_bytes x ≡ name → rest ≡ drop 1 xs

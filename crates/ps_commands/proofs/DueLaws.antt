@@ -1,12 +1,11 @@
 -- What is due for what was read and judged.
-use Rattle.std.proofs.Common.{◌≡◌, inl, ℕ, ◌+◌, ◌-◌, ◌<◌, arith, length-append, ◌≤◌, Bool, List, [], ◌++◌, length, Option, Some, None, Err, String, refl, sym, ap, subst, ◌∙◌, append-nil}
+use Rattle.std.proofs.Common.{◌≡◌, inl, ℕ, ◌+◌, ◌<◌, arith, length-append, ◌≤◌, Bool, List, [], ◌++◌, length, Option, Some, None, Err, String, refl, sym, ap, subst, ◌∙◌, append-nil}
 use Rattle.std.specs.declared.alloc.Global.{Global}
 use Rattle.std.proofs.lemmas.Option.{same_Some}
 use Rattle.ps_problem.specs.Problems.{Parts}
 use Rattle.ps_problem.specs.Written.{items_from}
 use Rattle.ps_canonical.specs.Lines.{upgraded_text}
 use Rattle.ps_answer.specs.declared.answer.Answer.{Answer}
-use Rattle.ps_answer.specs.declared.error.ReportError.TheVariants as errors
 use Rattle.ps_read.specs.declared.read_error.ReadError.{ReadError}
 use Rattle.ps_read.specs.declared.read_error.ReadError.TheVariants as unread
 use Rattle.ps_text.specs.declared.kind.ReadKind.{ReadKind}
@@ -29,24 +28,27 @@ use Rattle.ps_explain.specs.Explanations.{IsRightExplanation}
 use Rattle.ps_commands.specs.declared.command.Command.{Command}
 use Rattle.ps_commands.specs.declared.command.TheConstants.{MOST_PROBLEM}
 use Rattle.ps_commands.specs.declared.command.Command.TheVariants as commands
-use Rattle.ps_commands.specs.declared.status.Status.{Status}
-use Rattle.ps_commands.specs.declared.status.Status.TheVariants as status
+use Rattle.ps_messages.specs.declared.status.Status.{Status}
+use Rattle.ps_messages.specs.declared.status.Status.TheVariants as status
 use Rattle.ps_commands.specs.Commands.{Spell, SpellNone, limit_of, words_of}
+use Rattle.ps_max_commands.specs.Ends.{EndsMaxSat, EndsCheckMaxSat}
 use Rattle.ps_commands.specs.Statuses.{EndsCheck, EndsMake, EndsSolve, EndsUpgrade, HasText, IsAnswerOf}
 use Rattle.ps_commands.specs.RunLimits.{limits_for}
+use Rattle.ps_messages.specs.Lines as lines
 use Rattle.ps_commands.specs.Due as due
-use Rattle.ps_commands.specs.Due.{Output, too_long, usage, unreadable, DueAnswer, DueAnswered, NoProblem, Solved, IsSolvedBy, DueExplained, Explains, NoneExplained, explanation_of, status_explained, DueMade, DueUpgraded, NoneUpgraded, Within, TooLong, DueFor, Due, ForCommand, ForNone, report_of, status_after}
+use Rattle.ps_commands.specs.Due.{DueAnswer, DueAnswered, NoProblem, Solved, IsSolvedBy, DueExplained, Explains, NoneExplained, explanation_of, status_explained, DueMade, DueUpgraded, NoneUpgraded, Within, TooLong, DueFor, Due, ForCommand, ForNone, report_of, status_after}
+use Rattle.ps_messages.specs.Lines.{Output, too_long, usage, unreadable}
 use Rattle.ps_commands.proofs.CommandLaws.{one_command}
 use Rattle.ps_commands.specs.Runs.{CountsReads, IsTold, WasRead, Took, HasAnswered, HasTaken, HasRead, Wrote}
 use Rattle.ps_commands.specs.Replies.{AreWithin, DueBytes, IsDueFor, IsDue}
 
 -- what is due for what a check answered of the report's answer
 pub judged-accepted : (p : Parts) (a : Answer) (accepted : Accepted) (o : Output) → IsAccepted p a accepted → IsRightOf p a
-    → o ≡ due.accepted accepted.claims accepted.unfinished → DueAnswer p a o
+    → o ≡ lines.accepted accepted.claims accepted.unfinished → DueAnswer p a o
 judged-accepted p a accepted o is right shown =
-    due.Accepted is.valid right (shown ∙ ap (λ (n : ℕ). due.accepted n accepted.unfinished) is.claims ∙ ap (λ (n : ℕ). due.accepted (length (claims_of p (answer_of a))) n) is.unfinished)
+    due.Accepted is.valid right (shown ∙ ap (λ (n : ℕ). lines.accepted n accepted.unfinished) is.claims ∙ ap (λ (n : ℕ). lines.accepted (length (claims_of p (answer_of a))) n) is.unfinished)
 
-pub judged-refused : (p : Parts) (a : Answer) (e : CheckError) (r : Refusal) (o : Output) → e ≡ Refused r → IsJudged p a (Err e) → o ≡ due.refused r.claim r.reason → DueAnswer p a o
+pub judged-refused : (p : Parts) (a : Answer) (e : CheckError) (r : Refusal) (o : Output) → e ≡ Refused r → IsJudged p a (Err e) → o ≡ lines.refused r.claim r.reason → DueAnswer p a o
 judged-refused p a e r o is judged shown = let first = rw is at judged in due.RefusedFor r.claim r.reason first shown
 
 -- all bytes that were left were taken
@@ -66,6 +68,8 @@ told-is (commands.Solve l f) limit left bytes e h = h
 told-is (commands.Explain l f) limit left bytes e h = h
 told-is (commands.Make n l) limit left bytes e h = absurd (cc)
 told-is commands.Upgrade limit left bytes e h = h
+told-is (commands.MaxSat n) limit left bytes e h = h
+told-is (commands.CheckMaxSat n) limit left bytes e h = h
 
 within_due : (c : Command) (limit : ℕ) (bytes : List ℕ) (o : Output) → limit_of c ≡ Some limit → length bytes ≤ limit → DueBytes c bytes o → DueFor c bytes o
 within_due (commands.Check n) limit bytes o e few d = let same : n ≡ limit = same_Some n limit e in Within (subst (λ (m : ℕ). length bytes ≤ m) (sym same) few) d
@@ -73,6 +77,8 @@ within_due (commands.Solve l f) limit bytes o e few d = let same : MOST_PROBLEM 
 within_due (commands.Explain l f) limit bytes o e few d = let same : MOST_PROBLEM ≡ limit = same_Some MOST_PROBLEM limit e in Within (subst (λ (m : ℕ). length bytes ≤ m) (sym same) few) d
 within_due (commands.Make n l) limit bytes o e few d = d
 within_due commands.Upgrade limit bytes o e few d = let same : MOST_PROBLEM ≡ limit = same_Some MOST_PROBLEM limit e in Within (subst (λ (m : ℕ). length bytes ≤ m) (sym same) few) d
+within_due (commands.MaxSat n) limit bytes o e few d = let same : MOST_PROBLEM ≡ limit = same_Some MOST_PROBLEM limit e in Within (subst (λ (m : ℕ). length bytes ≤ m) (sym same) few) d
+within_due (commands.CheckMaxSat n) limit bytes o e few d = let same : n ≡ limit = same_Some n limit e in Within (subst (λ (m : ℕ). length bytes ≤ m) (sym same) few) d
 
 more_due : (c : Command) (limit : ℕ) (bytes : List ℕ) (o : Output) → limit_of c ≡ Some limit → limit < length bytes → o ≡ too_long limit → DueFor c bytes o
 more_due (commands.Check n) limit bytes o e more is =
@@ -87,6 +93,11 @@ more_due (commands.Make n l) limit bytes o e more is = absurd (cc)
 more_due commands.Upgrade limit bytes o e more is =
     let same : MOST_PROBLEM ≡ limit = same_Some MOST_PROBLEM limit e in
     TooLong (subst (λ (m : ℕ). m < length bytes) (sym same) more) (subst (λ (m : ℕ). o ≡ too_long m) (sym same) is)
+more_due (commands.MaxSat n) limit bytes o e more is =
+    let same : MOST_PROBLEM ≡ limit = same_Some MOST_PROBLEM limit e in
+    TooLong (subst (λ (m : ℕ). m < length bytes) (sym same) more) (subst (λ (m : ℕ). o ≡ too_long m) (sym same) is)
+more_due (commands.CheckMaxSat n) limit bytes o e more is =
+    let same : n ≡ limit = same_Some n limit e in TooLong (subst (λ (m : ℕ). m < length bytes) (sym same) more) (subst (λ (m : ℕ). o ≡ too_long m) (sym same) is)
 
 pub within_limit : (c : Command) (limit n : ℕ) → limit_of c ≡ Some limit → n ≤ limit → AreWithin c n
 within_limit (commands.Check m) limit n e le = let same : m ≡ limit = same_Some m limit e in omega (arith, le, same)
@@ -94,6 +105,8 @@ within_limit (commands.Solve l f) limit n e le = let same : MOST_PROBLEM ≡ lim
 within_limit (commands.Explain l f) limit n e le = let same : MOST_PROBLEM ≡ limit = same_Some MOST_PROBLEM limit e in omega (arith, le, same)
 within_limit (commands.Make k l) limit n e le = tt
 within_limit commands.Upgrade limit n e le = let same : MOST_PROBLEM ≡ limit = same_Some MOST_PROBLEM limit e in omega (arith, le, same)
+within_limit (commands.MaxSat m) limit n e le = let same : MOST_PROBLEM ≡ limit = same_Some MOST_PROBLEM limit e in omega (arith, le, same)
+within_limit (commands.CheckMaxSat m) limit n e le = let same : m ≡ limit = same_Some m limit e in omega (arith, le, same)
 
 pub input_due : (c : Command) (limit : ℕ) (old new : Option (List ℕ)) (taken given : List ℕ) (o : Output) → limit_of c ≡ Some limit → ReadAll limit old new taken → given ≡ taken
     → DueBytes c given o → IsDueFor c old o
@@ -161,12 +174,26 @@ upgrade_goes status.WriteFault g = g
 upgrade_goes status.NoMemory g = g
 upgrade_goes s g = tt
 
+maxsat_goes : (s : Status) → EndsMaxSat s → HasText s
+maxsat_goes status.ReadFault g = g
+maxsat_goes status.WriteFault g = g
+maxsat_goes status.NoMemory g = g
+maxsat_goes s g = tt
+
+check_maxsat_goes : (s : Status) → EndsCheckMaxSat s → HasText s
+check_maxsat_goes status.ReadFault g = g
+check_maxsat_goes status.WriteFault g = g
+check_maxsat_goes status.NoMemory g = g
+check_maxsat_goes s g = tt
+
 pub answer_goes : (c : Command) (s : Status) → IsAnswerOf c s → HasText s
 answer_goes (commands.Check n) s g = check_goes s g
 answer_goes (commands.Solve l e) s g = solve_goes s g
 answer_goes (commands.Explain l e) s g = solve_goes s g
 answer_goes (commands.Make n l) s g = make_goes s g
 answer_goes commands.Upgrade s g = upgrade_goes s g
+answer_goes (commands.MaxSat n) s g = maxsat_goes s g
+answer_goes (commands.CheckMaxSat n) s g = check_maxsat_goes s g
 
 -- at an answer the source was read
 pub took_by : (limit : ℕ) (s : Status) (old new : Option (List ℕ)) → HasText s → WasRead limit old new → Took limit s old new
@@ -201,6 +228,8 @@ read_cut words s old new g h = record { read = λ command spelled. by command (h
     by (commands.Explain limits enough) taken = was_read MOST_PROBLEM s old new g taken
     by (commands.Make n limits) taken = tt
     by commands.Upgrade taken = was_read MOST_PROBLEM s old new g taken
+    by (commands.MaxSat n) taken = was_read MOST_PROBLEM s old new g taken
+    by (commands.CheckMaxSat limit) taken = was_read limit s old new g taken
 
 pub command_due : (words : List (List ℕ)) (command : Command) (left : Option (List ℕ)) (o : Output) → Spell words command → IsDueFor command left o → IsDue words left o
 command_due words command left o spelled h = record { due = λ bytes given. ForCommand command spelled (h.due bytes (given.told command spelled)) }

@@ -22,7 +22,8 @@ use Rattle.ps_explain.specs.declared.explained.Explained.{Explained}
 use Rattle.ps_explain.specs.declared.explained.Explained.TheVariants as explained
 use Rattle.ps_explain.specs.Explanations.{IsRightExplanation}
 use Rattle.ps_commands.specs.RunLimits.{enough_for, limits_for}
-use Rattle.ps_commands.specs.Due.{Output, IsSolvedBy, IsExplainedBy, IsExplanationNotForPivots}
+use Rattle.ps_commands.specs.Due.{IsSolvedBy, IsExplainedBy, IsExplanationNotForPivots}
+use Rattle.ps_messages.specs.Lines.{Output}
 
 -- there are no fewer ways than worlds
 many_ways : (rows worlds : ℕ) → worlds ≤ choose (rows + worlds + 1) (rows + 1)

@@ -4,17 +4,17 @@ use Rattle.std.specs.Fmt.{decimal}
 use Rattle.ps_runs.specs.declared.limits.Limits.{Limits}
 use Rattle.ps_make.specs.declared.made.TheConstants.{MOST_LINKS}
 use Rattle.ps_commands.specs.declared.command.Command.{Command}
-use Rattle.ps_commands.specs.declared.command.Command.TheVariants.{Check, Explain, Make, Solve, Upgrade}
+use Rattle.ps_commands.specs.declared.command.Command.TheVariants.{Check, CheckMaxSat, Explain, Make, MaxSat, Solve, Upgrade}
 use Rattle.ps_commands.specs.declared.command.LimitValue.{LimitValue}
 use Rattle.ps_commands.specs.declared.command.LimitValue.TheVariants.{Number, Enough}
 use Rattle.ps_commands.specs.declared.command.RunSettings.{RunSettings}
 use Rattle.ps_log.proofs.StepShapes.{head, tail}
 use Rattle.ps_commands.specs.Commands.{setting_words, SetRuns, SpellMake, Spell, SpellNone}
 use Rattle.ps_commands.specs.Settings.{SetNoRuns, SpellsNoLinks, is_enough, limits_by}
-use Rattle.ps_commands.proofs.CommandLaws.{first_of, name_of, name_none, other, one_set, set_behind}
+use Rattle.ps_commands.proofs.CommandLaws.{mark_of, name_of, name_none, other, one_set, set_behind}
 
 make_none : (words : List (List ℕ)) → ((n : ℕ) (l : Limits) → ¬ SpellMake n l (codes "make" ∷ words)) → SpellNone (codes "make" ∷ words)
-unfolding first_of
+unfolding mark_of
 make_none words not = name_none (codes "make") words by
   where
     by : (c : Command) → codes "make" ≡ name_of c → ¬ Spell (codes "make" ∷ words) c
@@ -23,6 +23,8 @@ make_none words not = name_none (codes "make") words by
     by (Solve l e) is h = other (codes "make") (codes "solve") (λ x. omega (arith, x)) is
     by (Explain l e) is h = other (codes "make") (codes "explain") (λ x. omega (arith, x)) is
     by Upgrade is h = other (codes "make") (codes "upgrade") (λ x. omega (arith, x)) is
+    by (MaxSat n) is h = other (codes "make") (codes "maxsat") (λ x. omega (arith, x)) is
+    by (CheckMaxSat n) is h = other (codes "make") (codes "check-maxsat") (λ x. omega (arith, x)) is
 
 -- what the words behind the number set
 make_behind : (word : List ℕ) (words : List (List ℕ)) (n : ℕ) (l : Limits) → SpellMake n l (codes "make" ∷ word ∷ words) → (word ≡ decimal n) × SetRuns [] (Number l.pivots) l.conflicts words

@@ -29,7 +29,8 @@ use Rattle.ps_runs.specs.Programs.{Program}
 use Rattle.ps_runs.specs.Runs.{Stage}
 use Rattle.ps_runs.specs.Subjects.{Subject, sentences_of, subject_of, program_of}
 use Rattle.ps_runs.specs.Verdicts.{IsVerdictAt, IsSideAt, IsLawfulAnswerTo, IsLawfulPart, IsLawfulAnswer, asked_after}
-use Rattle.ps_commands.specs.Due.{Output, IsExplainedBy, IsMadeBy, IsSolvedBy}
+use Rattle.ps_commands.specs.Due.{IsExplainedBy, IsMadeBy, IsSolvedBy}
+use Rattle.ps_messages.specs.Lines.{Output}
 use Rattle.ps_commands.specs.Conflicts.{IsEnoughFor, IsOtherThanConflicts, IsVerdictNotForConflicts, IsSideNotForConflicts, IsQueryNotForConflicts, HasNoConflictsCause, IsExplanationNotForConflicts}
 
 not_spent : (p : Program) (conflicts : ℕ) (g : Stage) (limit : ℕ) (goal : Constraint) (steps : List Step) → 2 ^ p.form.variables ≤ conflicts

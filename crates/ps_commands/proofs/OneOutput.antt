@@ -14,9 +14,12 @@ use Rattle.ps_runs.specs.declared.limits.Limits.{Limits}
 use Rattle.ps_commands.specs.declared.command.Command.{Command}
 use Rattle.ps_commands.specs.declared.command.Command.TheVariants as commands
 use Rattle.ps_commands.specs.declared.command.TheConstants.{MOST_PROBLEM}
-use Rattle.ps_commands.specs.declared.status.Status.TheVariants.{Done}
+use Rattle.ps_messages.specs.declared.status.Status.TheVariants.{Done}
 use Rattle.ps_commands.specs.Commands.{Spell}
-use Rattle.ps_commands.specs.Due.{Output, refused, refused_line, unreadable, DueAnswer, Accepted, RefusedFor, DueReport, ReadAs, FaultAt, DueText, Spelled, NotRead, searched, DueAnswered, Solved, NoProblem, DueExplained, Explains, NoneExplained, DueUpgraded, Upgraded, NoneUpgraded, DueWithin, Within, TooLong, DueFor, Due, ForCommand, ForNone, IsSingle}
+use Rattle.ps_max_commands.specs.Due.{DueMaxSat, DueCheckMaxSat}
+use Rattle.ps_max_commands.proofs.OneDue.{one_unread_due, one_check_due}
+use Rattle.ps_commands.specs.Due.{DueAnswer, Accepted, RefusedFor, DueReport, ReadAs, FaultAt, DueText, Spelled, NotRead, searched, DueAnswered, Solved, NoProblem, DueExplained, Explains, NoneExplained, DueUpgraded, Upgraded, NoneUpgraded, DueWithin, Within, TooLong, DueFor, Due, ForCommand, ForNone, IsSingle}
+use Rattle.ps_messages.specs.Lines.{Output, refused, refused_line, unreadable}
 use Rattle.ps_commands.proofs.CommandLaws.{one_command}
 
 one_judged : (p : Parts) (a : Answer) (o o' : Output) → DueAnswer p a o → DueAnswer p a o' → o ≡ o'
@@ -97,6 +100,8 @@ one_for_command (commands.Explain limits enough) bytes o o' single d e =
     one_within MOST_PROBLEM (DueExplained limits enough) bytes o o' (λ few. one_unexplained limits enough bytes o o' (λ p. single p few)) d e
 one_for_command (commands.Make n limits) bytes o o' single d e = absurd single
 one_for_command commands.Upgrade bytes o o' single d e = one_within MOST_PROBLEM DueUpgraded bytes o o' (λ few. one_upgraded bytes o o') d e
+one_for_command (commands.MaxSat n) bytes o o' single d e = one_within MOST_PROBLEM (DueMaxSat n) bytes o o' (λ few. one_unread_due n bytes o o' (λ t. single t few)) d e
+one_for_command (commands.CheckMaxSat limit) bytes o o' single d e = one_within limit DueCheckMaxSat bytes o o' (λ few. one_check_due bytes o o') d e
 
 pub one_output : (words : List (List ℕ)) (bytes : List ℕ) (o o' : Output) → ((c : Command) → Spell words c → IsSingle c bytes) → Due words bytes o → Due words bytes o' → o ≡ o'
 one_output words bytes o o' single (ForCommand c spelled d) (ForCommand c' spelled' d') =

@@ -5,13 +5,14 @@ use Rattle.std.specs.Vec.Iter.{into_iter_items}
 use Rattle.std.specs.declared.alloc.Global.{Global}
 use Rattle.std.specs.declared.vec.IntoIter.{IntoIter}
 use Rattle.ps_commands.specs.Exits.{IfRan}
-use Rattle.ps_commands.specs.declared.status.Status.{Status}
-use Rattle.ps_commands.specs.declared.status.Status.TheVariants as status
+use Rattle.ps_messages.specs.declared.status.Status.{Status}
+use Rattle.ps_messages.specs.declared.status.Status.TheVariants as status
 use Rattle.ps_answer.specs.declared.answer.Answer.{Answer}
 use Rattle.ps_commands.specs.declared.made.MadeProblem.{MadeProblem}
 use Rattle.ps_commands.specs.declared.reply.Reply.{Reply}
-use Rattle.ps_commands.specs.declared.reply.Reply.TheVariants.{Line, Report, Explanation, Made, Upgraded}
+use Rattle.ps_commands.specs.declared.reply.Reply.TheVariants.{Line, Report, Explanation, Made, Upgraded, Weighted}
 use Rattle.ps_io.specs.Transfer.{Appends, AppendsPrefix, Writes}
+use Rattle.ps_max_commands.specs.Replies as weighted
 use Rattle.ps_io.proofs.Bytes.{appends-then}
 use Rattle.ps_io.proofs.CallerLemmas.{prefix-after}
 use Rattle.ps_commands.specs.Due.{comment_of, explanation_of, report_of, status_after, status_explained}
@@ -27,6 +28,7 @@ reply_ran words bytes left (Report x) old new due given g a = ran_by words bytes
 reply_ran words bytes left (Explanation e) old new due given g a = ran_by words bytes (explanation_of e) (status_explained e) old new g (due.due bytes given) a
 reply_ran words bytes left (Made m) old new due given g a = ran_by words bytes (made_bytes m) (status_by_open m.unfinished) old new g (due.due bytes given) a
 reply_ran words bytes left (Upgraded text) old new due given g a = ran_by words bytes text.items status.Done old new g (due.due bytes given) a
+reply_ran words bytes left (Weighted r) old new due given g a = ran_by words bytes (weighted.output_of r).text (weighted.output_of r).status old new g (due.due bytes given) a
 
 pub reply_cut : (words : List (List ℕ)) (bytes : List ℕ) (left : Option (List ℕ)) (r : Reply) (old new : Option (List ℕ)) → IsDue words left (output_of r) → IsGiven words left bytes
     → AppendsPrefix old new (output_of r).text → Cut words bytes old new

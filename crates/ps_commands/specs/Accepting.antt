@@ -7,11 +7,12 @@ use Rattle.ps_valid.specs.Answers.{answer_of}
 use Rattle.ps_runs.specs.declared.limits.Limits.{Limits}
 use Rattle.ps_generation.specs.Phases.{AreLimits}
 use Rattle.ps_answer.specs.declared.limits.TheConstants.{MOST_PIVOTS}
-use Rattle.ps_commands.specs.declared.status.Status.TheVariants.{Unfinished}
+use Rattle.ps_messages.specs.declared.status.Status.TheVariants.{Unfinished}
 use Rattle.ps_commands.specs.declared.command.Command.TheVariants.{Check}
 use Rattle.ps_commands.specs.declared.command.TheConstants.{MOST_PROBLEM}
 use Rattle.ps_commands.specs.RunLimits.{limits_for}
-use Rattle.ps_commands.specs.Due.{Output, DueFor, IsSolvedBy, accepted}
+use Rattle.ps_commands.specs.Due.{DueFor, IsSolvedBy}
+use Rattle.ps_messages.specs.Lines.{Output, accepted}
 
 -- the output is read back: nothing is open, or the pivots were fewer than the most
 abbrev pub IsReadable : Limits → Output → Type 0

@@ -9,12 +9,17 @@ use Rattle.ps_canonical.specs.Lines.{upgraded_text}
 use Rattle.ps_answer.specs.declared.answer.Answer.{Answer}
 use Rattle.ps_explain.specs.declared.explained.Explained.{Explained}
 use Rattle.ps_runs.specs.declared.limits.Limits.{Limits}
-use Rattle.ps_commands.specs.declared.command.Command.TheVariants.{Check, Explain, Make, Solve, Upgrade}
+use Rattle.ps_max_commands.specs.Due.{DueCheckMaxSat, IsAnswered}
+use Rattle.ps_wcnf.specs.Readings.{IsRead}
+use Rattle.ps_wcnf.specs.Splitting.{lines_of}
+use Rattle.ps_wcnf.specs.declared.text.WcnfText.{WcnfText}
+use Rattle.ps_commands.specs.declared.command.Command.TheVariants.{Check, CheckMaxSat, Explain, Make, MaxSat, Solve, Upgrade}
 use Rattle.ps_commands.specs.declared.command.TheConstants.{MOST_PROBLEM}
-use Rattle.ps_commands.specs.declared.status.Status.{Status}
-use Rattle.ps_commands.specs.declared.status.Status.TheVariants.{Done, NoMemory}
+use Rattle.ps_messages.specs.declared.status.Status.{Status}
+use Rattle.ps_messages.specs.declared.status.Status.TheVariants.{Done, NoMemory}
 use Rattle.ps_commands.specs.Commands.{Spell, words_of}
-use Rattle.ps_commands.specs.Due.{Output, DueMade, DueReport, IsExplainedBy, IsSolvedBy, searched}
+use Rattle.ps_commands.specs.Due.{DueMade, DueReport, IsExplainedBy, IsSolvedBy, searched}
+use Rattle.ps_messages.specs.Lines.{Output}
 use Rattle.ps_commands.specs.RunLimits.{limits_for}
 use Rattle.ps_commands.specs.Runs.{Answered, CountsReads, CountsWrites, IsGiven, Ran}
 
@@ -111,3 +116,19 @@ ReportsAreJudged = (words : List (String Global)) (limit : ℕ) (old new : Ends)
     → old.source.bytes ≡ Some bytes
     → length bytes ≤ limit → SpellsProblem (searched bytes) p place
     → HasWritten (DueReport p (drop place bytes)) status old new ⊎ IsOutOfMemory status old new
+
+-- for `maxsat` it is then the answer of a search for an optimum of the clauses that the bytes spell
+abbrev pub ClausesAreAnswered : Type 0
+ClausesAreAnswered = (words : List (String Global)) (conflicts : ℕ) (old new : Ends) (status : Status)
+    (bytes : List ℕ) (t : WcnfText) → Spell (words_of words) (MaxSat conflicts) → IsFaultless words old new status
+    → old.source.bytes ≡ Some bytes
+    → length bytes ≤ MOST_PROBLEM → IsRead (lines_of bytes) t
+    → HasWritten (IsAnswered conflicts bytes) status old new ⊎ IsOutOfMemory status old new
+
+-- and for `check-maxsat` what is due for the clauses and the answer behind them
+abbrev pub MaxAnswersAreJudged : Type 0
+MaxAnswersAreJudged = (words : List (String Global)) (limit : ℕ) (old new : Ends) (status : Status)
+    (bytes : List ℕ) → Spell (words_of words) (CheckMaxSat limit) → IsFaultless words old new status
+    → old.source.bytes ≡ Some bytes
+    → length bytes ≤ limit
+    → HasWritten (DueCheckMaxSat bytes) status old new ⊎ IsOutOfMemory status old new

@@ -7,7 +7,7 @@ use Rattle.ps_log.specs.declared.limits.TheConstants.{MOST_CONFLICTS}
 use Rattle.ps_runs.specs.declared.limits.Limits.{Limits}
 use Rattle.ps_make.specs.declared.made.TheConstants.{MOST_LINKS}
 use Rattle.ps_commands.specs.declared.command.Command.{Command}
-use Rattle.ps_commands.specs.declared.command.Command.TheVariants.{Check, Explain, Make, Solve, Upgrade}
+use Rattle.ps_commands.specs.declared.command.Command.TheVariants.{Check, CheckMaxSat, Explain, Make, MaxSat, Solve, Upgrade}
 use Rattle.ps_commands.specs.declared.command.Limit.{Limit}
 use Rattle.ps_commands.specs.declared.command.Limit.TheVariants.{Bytes, Pivots, Conflicts}
 use Rattle.ps_commands.specs.declared.command.LimitValue.{LimitValue}
@@ -74,6 +74,11 @@ pub record AreWordsOf (front : List (List ℕ)) (limits : List Limit) (words : L
   pub words_are : words ≡ front ++ setting_words settings
   pub are : AreSettings limits settings
 
+-- the words are these, and behind them a setting that makes the one limit be so much
+pub record SetOne (front : List (List ℕ)) (limit : Limit) (n : ℕ) (words : List (List ℕ)) : Type 0 where
+  pub spelled : AreWordsOf front (limit ∷ []) words
+  pub value_is : IsSetTo spelled.settings limit (Number n)
+
 -- the words are these, and behind them settings that make pivots and conflicts be so many
 pub record SetRuns (front : List (List ℕ)) (pivots : LimitValue) (conflicts : ℕ) (words : List (List ℕ)) : Type 0 where
   pub spelled : AreWordsOf front (Pivots ∷ Conflicts ∷ []) words
@@ -100,11 +105,13 @@ pub record SpellMake (n : ℕ) (limits : Limits) (words : List (List ℕ)) : Typ
 
 -- the words spell the command
 abbrev pub Spell : List (List ℕ) → Command → Type 0
-Spell words (Check bytes) = (w : AreWordsOf (codes "check" ∷ []) (Bytes ∷ []) words) × IsSetTo w.settings Bytes (Number bytes)
+Spell words (Check bytes) = SetOne (codes "check" ∷ []) Bytes bytes words
 Spell words (Solve limits enough) = SpellRuns (codes "solve") limits enough words
 Spell words (Explain limits enough) = SpellRuns (codes "explain") limits enough words
 Spell words (Make n limits) = SpellMake n limits words
 Spell words Upgrade = words ≡ codes "upgrade" ∷ []
+Spell words (MaxSat conflicts) = SetOne (codes "maxsat" ∷ []) Conflicts conflicts words
+Spell words (CheckMaxSat bytes) = SetOne (codes "check-maxsat" ∷ []) Bytes bytes words
 
 -- the words spell no command
 pub record SpellNone (words : List (List ℕ)) : Type 0 where
@@ -117,6 +124,8 @@ limit_of (Solve limits enough) = Some MOST_PROBLEM
 limit_of (Explain limits enough) = Some MOST_PROBLEM
 limit_of (Make n limits) = None
 limit_of Upgrade = Some MOST_PROBLEM
+limit_of (MaxSat conflicts) = Some MOST_PROBLEM
+limit_of (CheckMaxSat bytes) = Some bytes
 
 -- the words are of no command that reads
 pub record ReadNothing (words : List (String Global)) : Type 0 where

@@ -14,7 +14,8 @@ use Rattle.ps_explain.specs.declared.explained.Explained.{Explained}
 use Rattle.ps_explain.specs.declared.explained.Explained.TheVariants as explained
 use Rattle.ps_make.specs.Chain.{made_problem}
 use Rattle.ps_runs.specs.declared.limits.Limits.{Limits}
-use Rattle.ps_commands.specs.Due.{Output, IsExplainedBy, IsMadeBy, IsSolvedBy}
+use Rattle.ps_commands.specs.Due.{IsExplainedBy, IsMadeBy, IsSolvedBy}
+use Rattle.ps_messages.specs.Lines.{Output}
 
 -- a search may learn as many clauses as there are ways to set the nodes of a problem: 2 to their number
 abbrev pub IsEnoughFor : Parts → ℕ → Type 0

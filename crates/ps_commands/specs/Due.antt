@@ -1,5 +1,5 @@
 -- What the program writes for words and an input, and the status with which it ends.
-use Rattle.std.specs.Prelude.{◌≡◌, ◌<◌, ◌≤◌, ℕ, zero, suc, Bool, true, false, List, [], ◌++◌, length, take, drop, codes, decimal}
+use Rattle.std.specs.Prelude.{◌≡◌, ◌<◌, ◌≤◌, ℕ, zero, suc, Bool, true, false, List, [], ◌++◌, length, take, drop}
 use Rattle.ps_io.specs.LineText.{lines_bytes}
 use Rattle.ps_text.specs.Positions.{Position}
 use Rattle.ps_text.specs.declared.kind.ReadKind.{ReadKind}
@@ -29,50 +29,20 @@ use Rattle.ps_explain.specs.declared.explained.Explained.TheVariants as explaine
 use Rattle.ps_explain.specs.Explanations.{IsRightExplanation}
 use Rattle.ps_explain.specs.Texts.{explanation_lines}
 use Rattle.ps_make.specs.Chain.{made_problem, made_text}
-use Rattle.ps_commands.specs.declared.status.Status.{Status}
-use Rattle.ps_commands.specs.declared.status.Status.TheVariants.{Done, Inconsistent, Usage, Unreadable, Unfinished, Refused}
+use Rattle.ps_wcnf.specs.Readings.{IsRead}
+use Rattle.ps_wcnf.specs.Splitting.{lines_of}
+use Rattle.ps_wcnf.specs.declared.text.WcnfText.{WcnfText}
+use Rattle.ps_max_commands.specs.Due.{DueMaxSat, DueCheckMaxSat}
+use Rattle.ps_messages.specs.declared.status.Status.{Status}
+use Rattle.ps_messages.specs.declared.status.Status.TheVariants.{Done, Inconsistent, Unfinished}
+use Rattle.ps_messages.specs.Lines.{Output, accepted, refused, refused_line, too_long, unreadable, usage}
 use Rattle.ps_commands.specs.declared.command.Command.{Command}
-use Rattle.ps_commands.specs.declared.command.Command.TheVariants.{Check, Explain, Make, Solve, Upgrade}
+use Rattle.ps_commands.specs.declared.command.Command.TheVariants.{Check, CheckMaxSat, Explain, Make, MaxSat, Solve, Upgrade}
 use Rattle.ps_commands.specs.declared.checked.TheConstants.{MOST_SEARCHED}
 use Rattle.ps_commands.specs.declared.command.TheConstants.{MOST_PROBLEM}
 use Rattle.ps_commands.specs.Commands.{Spell, SpellNone}
 use Rattle.ps_commands.specs.RunLimits.{enough_for, limits_for}
 use Rattle.ps_commands.specs.Summaries.{summary}
-use Rattle.ps_commands.specs.Words.{kind_words, line_words, claim_words, reason_words}
-
--- a text, and the status after it
-pub record Output : Type 0 where
-  pub text : List ℕ
-  pub status : Status
-
--- one line, and the status after it
-abbrev pub line : List ℕ → Status → Output
-line words status = record { text = words ++ codes "\n"; status = status }
-
--- so many claims are accepted, and so much is open
-abbrev pub accepted : ℕ → ℕ → Output
-accepted claims unfinished = line (codes "accepted: claims " ++ (decimal claims ++ (codes ", open " ++ decimal unfinished))) Done
-
--- a claim is refused for the first reason against it
-abbrev pub refused : Claim → Reason → Output
-refused claim reason = line (codes "refused " ++ (claim_words claim ++ (codes " " ++ reason_words reason))) Refused
-
--- a line of the report is at fault
-abbrev pub refused_line : LineKind → ℕ → Output
-refused_line kind n = line (codes "refused report line " ++ (decimal n ++ (codes " " ++ line_words kind))) Refused
-
--- no problem is read, for a kind of refusal at a line and a column
-abbrev pub unreadable : ReadKind → Position → Output
-unreadable kind at = line (codes "unreadable: "
-    ++ (kind_words kind ++ (codes " at " ++ (decimal at.line ++ (codes ":" ++ decimal at.column))))) Unreadable
-
--- no problem is read, since there are more bytes than the limit
-abbrev pub too_long : ℕ → Output
-too_long limit = line (codes "unreadable: more than " ++ decimal limit ++ codes " bytes") Unreadable
-
--- the usage line, for words that spell no command
-abbrev pub usage : Output
-usage = line (codes "usage: psat solve|explain|check|upgrade|make N [--pivots N|enough] [--conflicts N] [--bytes N]") Usage
 
 -- due for a problem and an answer to it: the answer is accepted where it is valid, and it is then right; or else its first claim
 -- that isn't valid is refused, for the first reason against it
@@ -205,6 +175,8 @@ DueFor (Solve limits enough) bytes o = DueWithin MOST_PROBLEM (DueAnswered limit
 DueFor (Explain limits enough) bytes o = DueWithin MOST_PROBLEM (DueExplained limits enough) bytes o
 DueFor (Make n limits) bytes o = DueMade n limits o
 DueFor Upgrade bytes o = DueWithin MOST_PROBLEM DueUpgraded bytes o
+DueFor (MaxSat conflicts) bytes o = DueWithin MOST_PROBLEM (DueMaxSat conflicts) bytes o
+DueFor (CheckMaxSat limit) bytes o = DueWithin limit DueCheckMaxSat bytes o
 
 -- due for words and bytes: what is due for the command that the words spell, or else the usage line
 pub data Due (words : List (List ℕ)) (bytes : List ℕ) (o : Output) : Type 0 where
@@ -215,16 +187,23 @@ pub data Due (words : List (List ℕ)) (bytes : List ℕ) (o : Output) : Type 0 
 abbrev pub AreNoProblem : List ℕ → Type 0
 AreNoProblem bytes = (p : Parts) → length bytes ≤ MOST_PROBLEM → ¬ SpellsWhole bytes p
 
--- where one output at most is due: for `check` and `upgrade` always; for `solve` and `explain` where the bytes are no problem,
--- since a problem may have several right answers and explanations; for `make` it is never claimed
+-- the bytes are more than those of weighted clauses, or none
+abbrev pub AreNoClauses : List ℕ → Type 0
+AreNoClauses bytes = (t : WcnfText) → length bytes ≤ MOST_PROBLEM → ¬ IsRead (lines_of bytes) t
+
+-- where one output at most is due: for `check`, `upgrade` and `check-maxsat` always; for `solve`, `explain` and `maxsat` where
+-- the bytes are no problem or no clauses, since to these there may be several right answers; for `make` it is never claimed
 abbrev pub IsSingle : Command → List ℕ → Type 0
 IsSingle (Check limit) bytes = Unit {0}
 IsSingle (Solve limits enough) bytes = AreNoProblem bytes
 IsSingle (Explain limits enough) bytes = AreNoProblem bytes
 IsSingle (Make n limits) bytes = ⊥
 IsSingle Upgrade bytes = Unit {0}
+IsSingle (MaxSat conflicts) bytes = AreNoClauses bytes
+IsSingle (CheckMaxSat limit) bytes = Unit {0}
 
--- for words and bytes at most one output is due, but for the words of `solve` or `explain` and a problem, and for those of `make`
+-- for words and bytes at most one output is due, but for those of `solve` or `explain` and a problem, for those of `maxsat` and
+-- weighted clauses, and for the words of `make`
 abbrev pub OneOutputIsDue : Type 0
 OneOutputIsDue = (words : List (List ℕ)) (bytes : List ℕ) (o p : Output) → ((c : Command) → Spell words c → IsSingle c bytes)
     → Due words bytes o → Due words bytes p → o ≡ p

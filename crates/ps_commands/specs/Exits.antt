@@ -5,9 +5,9 @@ use Rattle.std.specs.declared.alloc.Global.{Global}
 use Rattle.std.specs.declared.vec.IntoIter.{IntoIter}
 use Rattle.ps_commands.specs.declared.exit.NoWords.{NoWords}
 use Rattle.ps_commands.specs.declared.exit.NoWords.TheVariants as none
-use Rattle.ps_commands.specs.declared.status.Status.{Status}
-use Rattle.ps_commands.specs.declared.status.Status.TheVariants.{ReadFault, WriteFault, NoMemory}
-use Rattle.ps_commands.specs.Statuses.{status_number}
+use Rattle.ps_messages.specs.declared.status.Status.{Status}
+use Rattle.ps_messages.specs.declared.status.Status.TheVariants.{ReadFault, WriteFault, NoMemory}
+use Rattle.ps_messages.specs.Statuses.{status_number}
 
 -- where the words are had and a run gave a status, the fact holds of the words behind the program's name, which is the first, and
 -- of the status

@@ -1,7 +1,6 @@
 -- Meaning
 pub mod Statuses
 pub mod Commands
-pub mod Words
 pub mod RunLimits
 pub mod Summaries
 pub mod Due

@@ -6,6 +6,9 @@ use Rattle.ps_answer.specs.declared.answer.Answer.{Answer}
 use Rattle.ps_generation.specs.Phases.{AreLimits}
 use Rattle.ps_runs.specs.declared.limits.Limits.{Limits}
 use Rattle.ps_explain.specs.Texts.{HasShortLines}
+use Rattle.ps_log.specs.declared.limits.TheConstants.{MOST_CONFLICTS}
+use Rattle.ps_max_commands.specs.Due.{DueMaxSat, DueCheckMaxSat}
+use Rattle.ps_max_commands.specs.Replies as weighted
 use Rattle.ps_problem.specs.Problems.{Parts}
 use Rattle.ps_claims.specs.Claims.{unfinished_of}
 use Rattle.ps_valid.specs.Answers.{answer_of}
@@ -14,17 +17,17 @@ use Rattle.ps_check.specs.declared.checked.Checked.{Checked}
 use Rattle.ps_check.specs.Checks.{IsFoundIn}
 use Rattle.ps_commands.specs.declared.command.Command.{Command}
 use Rattle.ps_make.specs.declared.made.TheConstants.{MOST_LINKS}
-use Rattle.ps_commands.specs.declared.command.Command.TheVariants.{Check, Explain, Make, Solve, Upgrade}
+use Rattle.ps_commands.specs.declared.command.Command.TheVariants.{Check, CheckMaxSat, Explain, Make, MaxSat, Solve, Upgrade}
 use Rattle.ps_commands.specs.declared.made.MadeProblem.{MadeProblem}
-use Rattle.ps_commands.specs.declared.message.Message.{Message}
 use Rattle.ps_commands.specs.declared.reply.Reply.{Reply}
-use Rattle.ps_commands.specs.declared.reply.Reply.TheVariants.{Line, Report, Explanation, Made, Upgraded}
+use Rattle.ps_commands.specs.declared.reply.Reply.TheVariants.{Line, Report, Explanation, Made, Upgraded, Weighted}
 use Rattle.ps_commands.specs.declared.reply_error.ReplyError.{ReplyError}
 use Rattle.ps_commands.specs.declared.reply_error.ReplyError.TheVariants as errors
-use Rattle.ps_commands.specs.declared.status.Status.{Status}
-use Rattle.ps_commands.specs.declared.status.Status.TheVariants as statuses
+use Rattle.ps_messages.specs.declared.status.Status.{Status}
+use Rattle.ps_messages.specs.declared.status.Status.TheVariants as statuses
 use Rattle.ps_commands.specs.Commands.{limit_of}
-use Rattle.ps_commands.specs.Due.{Output, Due, DueAnswered, DueExplained, DueFor, DueMade, DueText, DueUpgraded}
+use Rattle.ps_commands.specs.Due.{Due, DueAnswered, DueExplained, DueFor, DueMade, DueText, DueUpgraded}
+use Rattle.ps_messages.specs.Lines.{Output}
 use Rattle.ps_commands.specs.Due.{behind_summary, comment_of, explanation_of, report_of}
 use Rattle.ps_commands.specs.Due.{status_after, status_explained, status_made}
 use Rattle.ps_commands.specs.Summaries.{summary}
@@ -34,17 +37,9 @@ use Rattle.ps_commands.specs.Runs.{IsTold, IsGiven}
 abbrev pub IsText : {E : Type 0} → Result (String Global) E → List ℕ → Type 0
 IsText result words = IfOk result (λ text. string_bytes text ≡ words)
 
--- the output of a message: its text and its status
-abbrev pub message_output : Message → Output
-message_output m = record { text = string_bytes m.text; status = m.status }
-
 -- the output is due for all bytes of which this is found
 abbrev pub IsDueWhere : Checked → Output → Type 0
 IsDueWhere found o = (bytes : List ℕ) → IsFoundIn bytes found → DueText bytes o
-
--- where there is a message, this is its output
-abbrev pub Says : {E : Type 0} → Result Message E → Output → Type 0
-Says result output = IfOk result (λ m. message_output m ≡ output)
 
 -- the report of an open answer in comments, if there is one
 abbrev pub open_report : Option Answer → List ℕ
@@ -67,6 +62,7 @@ reply_status (Report a) = status_after a
 reply_status (Explanation e) = status_explained e
 reply_status (Made m) = status_by_open m.unfinished
 reply_status (Upgraded text) = statuses.Done
+reply_status (Weighted r) = (weighted.output_of r).status
 
 -- the text of a reply
 abbrev pub reply_text : Reply → List ℕ
@@ -75,6 +71,7 @@ reply_text (Report a) = report_of a
 reply_text (Explanation e) = explanation_of e
 reply_text (Made m) = made_bytes m
 reply_text (Upgraded text) = text.items
+reply_text (Weighted r) = (weighted.output_of r).text
 
 -- the output of a reply: its text, and the status after it
 abbrev pub output_of : Reply → Output
@@ -87,6 +84,7 @@ IsShortReply (Report a) = AreShortLines a
 IsShortReply (Explanation e) = HasShortLines e
 IsShortReply (Made m) = IfSome m.unfinished AreShortLines
 IsShortReply (Upgraded text) = Unit {0}
+IsShortReply (Weighted r) = weighted.IsShortReply r
 
 -- the status that takes the place of a reply's, by why there is none
 abbrev pub status_without_reply : ReplyError → Status
@@ -121,6 +119,8 @@ AreLimitsOf (Solve limits enough) = AreLimits limits
 AreLimitsOf (Explain limits enough) = AreLimits limits
 AreLimitsOf (Make n limits) = AreLimitsOfMake n limits
 AreLimitsOf Upgrade = Unit {0}
+AreLimitsOf (MaxSat conflicts) = conflicts ≤ MOST_CONFLICTS
+AreLimitsOf (CheckMaxSat limit) = Unit {0}
 
 -- so many bytes are within the limit of a command
 abbrev pub AreWithin : Command → ℕ → Type 0
@@ -133,6 +133,8 @@ DueBytes (Solve limits enough) bytes o = DueAnswered limits enough bytes o
 DueBytes (Explain limits enough) bytes o = DueExplained limits enough bytes o
 DueBytes (Make n limits) bytes o = DueMade n limits o
 DueBytes Upgrade bytes o = DueUpgraded bytes o
+DueBytes (MaxSat conflicts) bytes o = DueMaxSat conflicts bytes o
+DueBytes (CheckMaxSat limit) bytes o = DueCheckMaxSat bytes o
 
 -- the output is due for the command and whatever the source tells that it had left
 pub record IsDueFor (command : Command) (left : Option (List ℕ)) (o : Output) : Type 0 where

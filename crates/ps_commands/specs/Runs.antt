@@ -6,11 +6,12 @@ use Rattle.ps_io.specs.declared.limits.TheConstants.{LONGEST_READ}
 use Rattle.ps_io.specs.Causes.{next_count}
 use Rattle.ps_io.specs.Transfer.{Appends, AppendsPrefix, TookMore, TookWithin}
 use Rattle.ps_commands.specs.declared.command.Command.{Command}
-use Rattle.ps_commands.specs.declared.status.Status.{Status}
-use Rattle.ps_commands.specs.declared.status.Status.TheVariants.{ReadFault, WriteFault, NoMemory}
+use Rattle.ps_messages.specs.declared.status.Status.{Status}
+use Rattle.ps_messages.specs.declared.status.Status.TheVariants.{ReadFault, WriteFault, NoMemory}
 use Rattle.ps_commands.specs.Commands.{Spell, limit_of, words_of}
 use Rattle.ps_commands.specs.Statuses.{MayAnswer}
-use Rattle.ps_commands.specs.Due.{Output, Due}
+use Rattle.ps_commands.specs.Due.{Due}
+use Rattle.ps_messages.specs.Lines.{Output}
 
 -- the bytes are those that the source had left, if the command reads
 abbrev pub IsTold : Command → Option (List ℕ) → List ℕ → Type 0

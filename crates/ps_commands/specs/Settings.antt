@@ -1,7 +1,6 @@
 -- What the words behind a command's name set.
-use Rattle.std.specs.Prelude.{◌≡◌, ◌≤◌, ℕ, Bool, true, false, List, [], ◌∷◌, Option, MatchOption, codes, decimal}
+use Rattle.std.specs.Prelude.{◌≡◌, ◌≤◌, ℕ, Bool, true, false, List, [], ◌∷◌, Option, MatchOption, decimal}
 use Rattle.ps_commands.specs.declared.command.Command.{Command}
-use Rattle.ps_commands.specs.declared.command.Command.TheVariants.{Check}
 use Rattle.ps_runs.specs.declared.limits.Limits.{Limits}
 use Rattle.ps_make.specs.declared.made.TheConstants.{MOST_LINKS}
 use Rattle.ps_commands.specs.declared.command.Limit.{Limit}
@@ -10,7 +9,7 @@ use Rattle.ps_commands.specs.declared.command.LimitValue.{LimitValue}
 use Rattle.ps_commands.specs.declared.command.LimitValue.TheVariants.{Number, Enough}
 use Rattle.ps_commands.specs.declared.command.RunSettings.{RunSettings}
 use Rattle.ps_commands.specs.declared.command.TheConstants.{DEFAULT_PIVOTS}
-use Rattle.ps_commands.specs.Commands.{limit_word, value_word, MayBe, SetRuns, Spell, SpellNone}
+use Rattle.ps_commands.specs.Commands.{limit_word, value_word, MayBe, SetOne, SetRuns, Spell, SpellNone}
 
 -- the two words set the limit to the value
 pub record SetsLimit (word value : List ℕ) (limit : Limit) (v : LimitValue) : Type 0 where
@@ -39,9 +38,13 @@ FindsNumber word digits limit found = MatchOption found (HasNoNumber word digits
 abbrev pub SetEnough : List ℕ → List ℕ → Type 0
 SetEnough word value = (word ≡ limit_word Pivots) × (value ≡ value_word Enough)
 
--- behind `check` the words set how many bytes it reads at most, or where there is no number, the words spell no command
-abbrev pub SetBytes : List (List ℕ) → Option ℕ → Type 0
-SetBytes words found = MatchOption found (SpellNone (codes "check" ∷ words)) (λ n. Spell (codes "check" ∷ words) (Check n))
+-- the words don't set the one limit of a command
+pub record SetsNoOne (limit : Limit) (words : List (List ℕ)) : Type 0 where
+  pub none : (n : ℕ) → ¬ SetOne [] limit n words
+
+-- the words set the one limit of a command to the number that is found, or don't set it where there is none
+abbrev pub FindsOne : Limit → List (List ℕ) → Option ℕ → Type 0
+FindsOne limit words found = MatchOption found (SetsNoOne limit words) (λ n. SetOne [] limit n words)
 
 -- the words are no settings of the limits of runs
 pub record SetNoRuns (words : List (List ℕ)) : Type 0 where

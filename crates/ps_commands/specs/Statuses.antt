@@ -1,22 +1,11 @@
--- The numbers of statuses, and which of them go with a text.
-use Rattle.std.specs.Prelude.{ℕ, ◌⊎◌}
+-- Which statuses go with a text, and with which command.
+use Rattle.std.specs.Prelude.{◌⊎◌}
+use Rattle.ps_max_commands.specs.Ends.{EndsMaxSat, EndsCheckMaxSat}
 use Rattle.ps_commands.specs.declared.command.Command.{Command}
-use Rattle.ps_commands.specs.declared.command.Command.TheVariants.{Check, Explain, Make, Solve, Upgrade}
-use Rattle.ps_commands.specs.declared.status.Status.{Status}
-use Rattle.ps_commands.specs.declared.status.Status.TheVariants.{Done, Inconsistent, Usage, Unreadable, Unfinished}
-use Rattle.ps_commands.specs.declared.status.Status.TheVariants.{ReadFault, WriteFault, NoMemory, Refused}
-
--- the number of a status, which is the exit code
-abbrev pub status_number : Status → ℕ
-status_number Done = 0
-status_number Inconsistent = 1
-status_number Usage = 2
-status_number Unreadable = 3
-status_number Unfinished = 4
-status_number ReadFault = 5
-status_number WriteFault = 6
-status_number NoMemory = 7
-status_number Refused = 8
+use Rattle.ps_commands.specs.declared.command.Command.TheVariants.{Check, CheckMaxSat, Explain, Make, MaxSat, Solve, Upgrade}
+use Rattle.ps_messages.specs.declared.status.Status.{Status}
+use Rattle.ps_messages.specs.declared.status.Status.TheVariants.{Done, Inconsistent, Usage, Unreadable, Unfinished}
+use Rattle.ps_messages.specs.declared.status.Status.TheVariants.{ReadFault, WriteFault, NoMemory, Refused}
 
 -- a status of `check` that goes with a text
 abbrev pub EndsCheck : Status → Type 0
@@ -52,6 +41,8 @@ IsAnswerOf (Solve limits enough) status = EndsSolve status
 IsAnswerOf (Explain limits enough) status = EndsSolve status
 IsAnswerOf (Make n limits) status = EndsMake status
 IsAnswerOf Upgrade status = EndsUpgrade status
+IsAnswerOf (MaxSat conflicts) status = EndsMaxSat status
+IsAnswerOf (CheckMaxSat limit) status = EndsCheckMaxSat status
 
 -- a status that goes with a text
 abbrev pub HasText : Status → Type 0

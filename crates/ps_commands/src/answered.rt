@@ -4,8 +4,8 @@ ghost use Rattle.ps_claims.specs.Claims.{open_in_part, open_in_side};
 ghost use Rattle.ps_valid.specs.Answers.{part_of, parts_of, side_of};
 ghost use Rattle.ps_commands.specs.Due.{status_after};
 
-use crate::status::Status;
 use ps_answer::{Answer, QueryAnswer, QueryPart, SideAnswer, Verdict};
+use ps_messages::Status;
 
 // Whether a side of a query has its bound.
 fn is_side_done(side: &SideAnswer) -> bool

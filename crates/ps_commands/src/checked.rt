@@ -1,16 +1,17 @@
 //! The reply to an input with a report.
 ghost use Rattle.std.specs.Prelude.{IfOk};
-ghost use Rattle.ps_commands.specs.Replies.{IsDueFor, IsDueWhere, IsShortReply, message_output, output_of};
+ghost use Rattle.ps_commands.specs.Replies.{IsDueFor, IsDueWhere, IsShortReply, output_of};
+ghost use Rattle.ps_messages.specs.Messages.{message_output};
 ghost use Rattle.ps_commands.specs.Replies.{reply_status, status_of};
 ghost use Rattle.ps_commands.specs.Runs.{CountsReads, Took};
 ghost use Rattle.ps_commands.specs.Statuses.{EndsCheck};
 
 use crate::command::Command;
-use crate::message::Message;
 use crate::reply::Reply;
 use crate::reply_error::ReplyError;
 use ps_check::{Checked, check_stream};
 use ps_io::{NoMemory, ReadAllError, Source};
+use ps_messages::Message;
 use std::alloc::Global;
 
 /// The most bytes in which a problem is looked for: one fewer than a line or a column can number.

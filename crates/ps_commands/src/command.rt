@@ -3,22 +3,22 @@ ghost use Rattle.std.specs.Prelude.{◌≡◌, ◌≤◌, ◌<◌, ◌^◌, ◌�
 ghost use Rattle.std.specs.Prelude.{[], ◌∷◌, codes, decimal, string_bytes};
 ghost use Rattle.ps_make.specs.declared.made.TheConstants.{MOST_LINKS};
 ghost use Rattle.ps_commands.specs.declared.command.Limit.TheVariants.{Pivots};
-ghost use Rattle.ps_commands.specs.Commands.{Spell, SpellNone, limit_word, most_of, words_of};
-ghost use Rattle.ps_commands.specs.Settings.{FindsBehind, FindsLinks, FindsNumber, FindsSettings};
-ghost use Rattle.ps_commands.specs.Settings.{FindsValue, SetBytes, SetEnough, is_enough, limits_by};
+ghost use Rattle.ps_commands.specs.Commands.{Spell, SpellNone, default_of, limit_word, most_of, words_of};
+ghost use Rattle.ps_commands.specs.Settings.{FindsBehind, FindsLinks, FindsNumber, FindsOne};
+ghost use Rattle.ps_commands.specs.Settings.{FindsSettings, FindsValue, SetEnough, is_enough, limits_by};
 
 use itoa::Buffer;
 use ps_answer::{MOST_CONFLICTS, MOST_PIVOTS};
 use ps_make::MOST_LINKS;
 use ps_query::Limits;
 
-/// The most bytes that `check` reads where the words name no number.
+/// The most bytes that `check` and `check-maxsat` read where the words name no number.
 pub const DEFAULT_BYTES: u64 = 1 << 30;
 
 /// The most bytes that words may name.
 pub const MOST_BYTES: u64 = 1 << 40;
 
-/// The most bytes of a problem that is to be answered.
+/// The most bytes of a problem or of weighted clauses that are to be answered.
 pub const MOST_PROBLEM: u64 = 1 << 20;
 
 /// How many pivots a run makes at most where the words name no number.
@@ -41,6 +41,10 @@ pub enum Command {
     Check { bytes: u64 },
     /// Writes the canonical text of a problem as one of version 2.
     Upgrade,
+    /// Looks for an optimum of weighted clauses; each search learns at most so many clauses.
+    MaxSat { conflicts: u64 },
+    /// Judges the answer behind weighted clauses, and reads at most so many bytes.
+    CheckMaxSat { bytes: u64 },
     /// Makes the problem of a chain of `links` implications, answers it within limits of pivots and
     /// conflicts, and reads nothing.
     Make { links: u32, limits: Limits },
@@ -49,7 +53,7 @@ pub enum Command {
 /// A limit that words may set.
 #[derive(Clone, Copy)]
 pub enum Limit {
-    /// How many bytes `check` reads at most.
+    /// How many bytes `check` or `check-maxsat` reads at most.
     Bytes,
     /// How many pivots a run makes at most.
     Pivots,
@@ -110,6 +114,17 @@ impl Limit {
             Limit::Bytes => "--bytes",
             Limit::Pivots => "--pivots",
             Limit::Conflicts => "--conflicts",
+        }
+    }
+
+    // What it is where no words set it.
+    fn default(self) -> u64
+        ensures { result ≡ default_of self }
+    {
+        match self {
+            Limit::Bytes => DEFAULT_BYTES,
+            Limit::Pivots => DEFAULT_PIVOTS,
+            Limit::Conflicts => DEFAULT_CONFLICTS,
         }
     }
 
@@ -188,15 +203,39 @@ fn parse_pivots(word: &String, value: &String) -> Option<LimitValue>
     Some(LimitValue::Number(pivots))
 }
 
-// The bytes that the words behind `check` set, or None where they aren't its settings.
-fn parse_check(settings: &[String]) -> Option<u64>
-    ensures { SetBytes (words_of settings.now) result }
+// What words set the one limit of a command to, or None where they aren't its settings.
+fn parse_limit(limit: Limit, settings: &[String]) -> Option<u64>
+    ensures { FindsOne limit (words_of settings.now) result }
 {
     match settings {
-        [] => Some(DEFAULT_BYTES),
-        [word, digits] => parse_setting(Limit::Bytes, word, digits),
+        [] => Some(limit.default()),
+        [word, digits] => parse_setting(limit, word, digits),
         _ => None,
     }
+}
+
+// `check` with the bytes that the words behind it set, or None where they aren't its settings.
+fn parse_check(settings: &[String]) -> Option<Command>
+    ensures { FindsBehind (codes "check") (words_of settings.now) result }
+{
+    let bytes = parse_limit(Limit::Bytes, settings)?;
+    Some(Command::Check { bytes })
+}
+
+// `maxsat` with the conflicts that the words behind it set, or None where they aren't its settings.
+fn parse_maxsat(settings: &[String]) -> Option<Command>
+    ensures { FindsBehind (codes "maxsat") (words_of settings.now) result }
+{
+    let conflicts = parse_limit(Limit::Conflicts, settings)?;
+    Some(Command::MaxSat { conflicts })
+}
+
+// `check-maxsat` with the bytes that the words behind it set, or None where they aren't its settings.
+fn parse_check_maxsat(settings: &[String]) -> Option<Command>
+    ensures { FindsBehind (codes "check-maxsat") (words_of settings.now) result }
+{
+    let bytes = parse_limit(Limit::Bytes, settings)?;
+    Some(Command::CheckMaxSat { bytes })
 }
 
 // The settings of runs where two words set one of them, or None where they set neither.
@@ -318,11 +357,10 @@ pub fn parse_words(words: &[String]) -> Option<Command>
         [name, settings @ ..] if is(name, "solve") => parse_solve(settings),
         [name, settings @ ..] if is(name, "explain") => parse_explain(settings),
         [name, settings @ ..] if is(name, "make") => parse_make(settings),
-        [name, settings @ ..] if is(name, "check") => {
-            let bytes = parse_check(settings)?;
-            Some(Command::Check { bytes })
-        }
+        [name, settings @ ..] if is(name, "check") => parse_check(settings),
         [name, settings @ ..] if is(name, "upgrade") => parse_upgrade(settings),
+        [name, settings @ ..] if is(name, "maxsat") => parse_maxsat(settings),
+        [name, settings @ ..] if is(name, "check-maxsat") => parse_check_maxsat(settings),
         _ => None,
     }
 }

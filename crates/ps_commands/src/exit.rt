@@ -9,8 +9,8 @@ ghost use Rattle.ps_commands.specs.Runs.{CountsReads, CountsWrites, HasAnswered,
 ghost use Rattle.ps_commands.specs.Statuses.{AnswersUsage, IsSilent};
 
 use crate::running::run;
-use crate::status::Status;
 use ps_io::{Sink, Source};
+use ps_messages::Status;
 use std::alloc::{AllocError, Global};
 use std::env::Args;
 use std::io::{self, ErrorKind};

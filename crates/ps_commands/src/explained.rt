@@ -9,13 +9,12 @@ ghost use Rattle.ps_commands.specs.Due.{DueExplained};
 ghost use Rattle.ps_commands.specs.Replies.{IsShortReply, output_of, reply_status};
 ghost use Rattle.ps_commands.specs.Statuses.{EndsSolve};
 
-use crate::message::Message;
 use crate::reply::Reply;
 use crate::solved::limits_for;
-use crate::status::Status;
 use ps_engine::Engine;
 use ps_explain::{Explained, explain};
 use ps_io::NoMemory;
+use ps_messages::{Message, Status};
 use ps_problem::Problem;
 use ps_query::Limits;
 use ps_read::{ReadError, read_whole};

@@ -8,7 +8,8 @@ ghost use Rattle.ps_answer.specs.declared.limits.TheConstants.{MOST_PIVOTS};
 ghost use Rattle.ps_log.specs.declared.limits.TheConstants.{MOST_CONFLICTS};
 ghost use Rattle.ps_make.specs.declared.made.TheConstants.{MOST_LINKS};
 ghost use Rattle.ps_commands.specs.Accepting.{OneAnswerIsDue, ReportsAreAccepted};
-ghost use Rattle.ps_commands.specs.AcceptedRuns.{SolvedRunsAreAccepted};
+ghost use Rattle.ps_commands.specs.AcceptedRuns.{MaxRunsAreAccepted, SolvedRunsAreAccepted};
+ghost use Rattle.ps_commands.specs.Answering.{ClausesAreAnswered, MaxAnswersAreJudged};
 ghost use Rattle.ps_commands.specs.Answering.{FaultlessRunsAnswer, ProblemsAreExplained, ProblemsAreMade};
 ghost use Rattle.ps_commands.specs.Answering.{ProblemsAreSolved, ProblemsAreUpgraded, ReportsAreJudged};
 ghost use Rattle.ps_commands.specs.Commands.{Spell};
@@ -18,9 +19,9 @@ ghost use Rattle.ps_commands.specs.Due.{EnoughLeavesNoExplanationOpen, EnoughLea
 ghost use Rattle.ps_commands.specs.Due.{ManyPivotsLeaveNoExplanationOpen, ManyPivotsLeaveNoneOpen};
 ghost use Rattle.ps_commands.specs.Due.{OneOutputIsDue, UpgradedTextsAreReread};
 
-/// For words and bytes at most one output is due, but for the words of `solve`, `explain` and
-/// `make`: to one problem several answers and several explanations may be right. A report that is
-/// due for `solve` is that of one answer.
+/// For words and bytes at most one output is due, but for the words of `solve`, `explain`, `maxsat`
+/// and `make`: to one problem several answers and several explanations may be right, and several
+/// optima to the same clauses. A report that is due for `solve` is that of one answer.
 pub fn one_output_is_due()
     ensures command { (words : List (List ℕ)) (c d : Command)
         → Spell words c → Spell words d → c ≡ d }
@@ -41,6 +42,12 @@ pub fn upgraded_texts_are_reread()
 pub fn reports_are_accepted()
     ensures due { ReportsAreAccepted }
     ensures runs { SolvedRunsAreAccepted }
+{}
+
+/// Behind its clauses and a line feed, what a run of `maxsat` wrote is accepted by each run of
+/// `check-maxsat` within its limit of bytes, where no call of either failed and memory sufficed.
+pub fn answers_of_clauses_are_accepted()
+    ensures { MaxRunsAreAccepted }
 {}
 
 /// With `--pivots enough`, where that number is at most the most, no part of a due answer is open for
@@ -65,7 +72,9 @@ pub fn many_conflicts_leave_none_open()
 /// that are a problem, that is the report of an answer to it, and for `explain` an explanation of
 /// it, for `upgrade` its canonical text as one of version 2; for `check` and a problem at the front of
 /// such bytes, what is due for it and the bytes behind it; and for `make` the chain of so many links
-/// with the summary of an answer to its problem.
+/// with the summary of an answer to its problem. For `maxsat` and weighted clauses within the limit it
+/// is the answer of a search for their optimum, and for `check-maxsat` what is due for the clauses and
+/// the answer behind them.
 pub fn faultless_runs_answer()
     ensures answered { FaultlessRunsAnswer }
     ensures solved { ProblemsAreSolved }
@@ -73,6 +82,8 @@ pub fn faultless_runs_answer()
     ensures judged { ReportsAreJudged }
     ensures upgraded { ProblemsAreUpgraded }
     ensures made { ProblemsAreMade }
+    ensures weighted { ClausesAreAnswered }
+    ensures weighted_judged { MaxAnswersAreJudged }
 {}
 
 /// The limits of the commands, and of the search for a problem, by their numbers.

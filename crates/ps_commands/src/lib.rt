@@ -1,6 +1,7 @@
 //! The commands of a solver and checker for probabilistic logic: it answers a problem with a report,
 //! judges a report on a problem, explains why a problem's sentences can't be met, writes a problem's
-//! canonical text, and makes problems.
+//! canonical text, and makes problems; it looks for optima of weighted clauses, and judges answers
+//! about them.
 #![tactic(auto)]
 
 mod answered;
@@ -10,20 +11,16 @@ mod exit;
 mod explained;
 mod laws;
 mod made;
-mod message;
 mod reply;
 mod reply_error;
 mod running;
-mod shown;
 mod solved;
-mod status;
 mod summary;
 mod upgraded;
 mod writing;
 
 pub use command::{Command, MOST_PROBLEM, parse_words};
 pub use exit::{NoWords, exit_code, failure, run_program};
-pub use message::Message;
+pub use ps_messages::{Message, Status};
 pub use ps_query::Limits;
 pub use running::run;
-pub use status::Status;

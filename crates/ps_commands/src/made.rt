@@ -9,11 +9,11 @@ ghost use Rattle.ps_commands.specs.Replies.{reply_status, status_by_open};
 ghost use Rattle.ps_commands.specs.Statuses.{EndsMake};
 
 use crate::reply::Reply;
-use crate::status::Status;
 use crate::summary::summary_text;
 use ps_answer::Answer;
 use ps_io::NoMemory;
 use ps_make::{made_texts_are_read, make_text};
+use ps_messages::Status;
 use ps_problem::Problem;
 use ps_query::{Limits, solve};
 use ps_read::{ReadError, read_whole};

@@ -5,10 +5,10 @@ ghost use Rattle.ps_commands.specs.Replies.{reply_status};
 use crate::answered::status_of;
 use crate::explained::status_explained;
 use crate::made::MadeProblem;
-use crate::message::Message;
-use crate::status::Status;
 use ps_answer::Answer;
 use ps_explain::Explained;
+use ps_max_commands::MaxReply;
+use ps_messages::{Message, Status};
 
 /// What is to be written.
 #[derive(Drop)]
@@ -23,6 +23,8 @@ pub enum Reply {
     Made(MadeProblem),
     /// The text of a problem.
     Upgraded(Vec<u8>),
+    /// What is answered of weighted clauses.
+    Weighted(MaxReply),
 }
 
 impl Reply {
@@ -36,6 +38,7 @@ impl Reply {
             Reply::Explanation(explained) => status_explained(explained),
             Reply::Made(made) => made.status(),
             Reply::Upgraded(_) => Status::Done,
+            Reply::Weighted(reply) => reply.status(),
         }
     }
 }

@@ -1,6 +1,6 @@
 //! Why there is no reply.
-use crate::status::Status;
 use ps_io::NoMemory;
+use ps_messages::Status;
 use std::alloc::AllocError;
 
 /// Why there is no reply.

@@ -10,14 +10,14 @@ use crate::checked::reply_to_check;
 use crate::command::{Command, MOST_PROBLEM, parse_words};
 use crate::explained::reply_to_explain;
 use crate::made::reply_to_make;
-use crate::message::Message;
 use crate::reply::Reply;
 use crate::reply_error::ReplyError;
 use crate::solved::reply_to_solve;
-use crate::status::Status;
 use crate::upgraded::reply_to_upgrade;
 use crate::writing::write_reply;
 use ps_io::{NoMemory, ReadAllError, Sink, Source, read_all};
+use ps_max_commands::{reply_to_check_maxsat, reply_to_maxsat};
+use ps_messages::{Message, Status};
 use std::alloc::Global;
 
 // The reply to bytes that are within the limit of a command; one that reads nothing takes any.
@@ -36,6 +36,10 @@ fn reply_to_bytes(alloc: Global, command: Command, bytes: &[u8]) -> Result<Reply
         Command::Check { .. } => unreachable!(),
         Command::Make { links, limits } => reply_to_make(alloc, links, limits),
         Command::Upgrade => reply_to_upgrade(alloc, bytes),
+        Command::MaxSat { conflicts } => {
+            Ok(Reply::Weighted(reply_to_maxsat(alloc, bytes, conflicts)?))
+        }
+        Command::CheckMaxSat { .. } => Ok(Reply::Weighted(reply_to_check_maxsat(alloc, bytes)?)),
     }
 }
 
@@ -79,9 +83,11 @@ fn reply_to_command<I: Source>(
     ensures faults { CountsReads (I.faults source.old) (I.faults source.new) (status_of result) }
 {
     match command {
-        Command::Solve { .. } | Command::Explain { .. } | Command::Upgrade => {
-            reply_to_input(alloc, command, MOST_PROBLEM, source)
-        }
+        Command::Solve { .. }
+        | Command::Explain { .. }
+        | Command::Upgrade
+        | Command::MaxSat { .. } => reply_to_input(alloc, command, MOST_PROBLEM, source),
+        Command::CheckMaxSat { bytes } => reply_to_input(alloc, command, bytes, source),
         Command::Check { bytes } => reply_to_check(alloc, bytes, source),
         Command::Make { .. } => Ok(reply_to_bytes(alloc, command, &[])?),
     }

@@ -8,10 +8,10 @@ ghost use Rattle.ps_commands.specs.Replies.{IsShortReply, output_of, reply_statu
 ghost use Rattle.ps_commands.specs.RunLimits as run;
 ghost use Rattle.ps_commands.specs.Statuses.{EndsSolve};
 
-use crate::message::Message;
 use crate::reply::Reply;
 use ps_answer::MOST_PIVOTS;
 use ps_io::NoMemory;
+use ps_messages::Message;
 use ps_problem::Problem;
 use ps_query::{Limits, solve};
 use ps_read::{ReadError, read_whole};

@@ -5,10 +5,10 @@ ghost use Rattle.ps_commands.specs.Due.{DueUpgraded};
 ghost use Rattle.ps_commands.specs.Replies.{IsShortReply, output_of, reply_status};
 ghost use Rattle.ps_commands.specs.Statuses.{EndsUpgrade};
 
-use crate::message::Message;
 use crate::reply::Reply;
 use ps_canonical::upgraded_text;
 use ps_io::NoMemory;
+use ps_messages::Message;
 use ps_read::{ReadError, read_whole};
 use std::alloc::Global;
 

@@ -14,6 +14,7 @@ use crate::reply::Reply;
 use ps_answer::Answer;
 use ps_explain::{Explained, write_explanation};
 use ps_io::{Lines, Sink, WriteFault, write_all};
+use ps_max_commands::write_max_reply;
 use ps_report::write_report;
 use std::alloc::Global;
 
@@ -92,5 +93,6 @@ pub fn write_reply<O: Sink>(alloc: Global, sink: &mut O, reply: &Reply) -> Resul
         Reply::Explanation(explained) => write_explained(alloc, sink, explained),
         Reply::Made(made) => write_made(alloc, sink, made),
         Reply::Upgraded(text) => write_all(sink, text),
+        Reply::Weighted(reply) => write_max_reply(alloc, sink, reply),
     }
 }

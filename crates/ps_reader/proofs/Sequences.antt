@@ -88,11 +88,12 @@ pub record Makes {A : Type 0} (p : Part) (front ws : List (List ℕ)) (mk : A �
   pub fits : (a : A) → P a → Fits p (mk a)
   pub only : (i : LineItem) → IsSaid (front ++ ws) i → IsMade p mk P i
 
-front_spelled : (front ws : List (List ℕ)) (vs : List Word) → SpellWords ws vs → SpellWords (front ++ ws) (map Letters front ++ vs)
+-- words with others before them
+pub front_spelled : (front ws : List (List ℕ)) (vs : List Word) → SpellWords ws vs → SpellWords (front ++ ws) (map Letters front ++ vs)
 front_spelled [] ws vs s = s
 front_spelled (w ∷ front) ws vs s = (refl, front_spelled front ws vs s)
 
-behind_front : (front ws : List (List ℕ)) (vs : List Word) → SpellWords (front ++ ws) (map Letters front ++ vs) → SpellWords ws vs
+pub behind_front : (front ws : List (List ℕ)) (vs : List Word) → SpellWords (front ++ ws) (map Letters front ++ vs) → SpellWords ws vs
 behind_front [] ws vs s = s
 behind_front (w ∷ front) ws vs s = behind_front front ws vs s.1
 

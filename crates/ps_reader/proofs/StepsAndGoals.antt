@@ -66,19 +66,20 @@ module _ {X : Type 0} {fits : ℕ → Bool} {IsText : List ℕ → X → Type 0}
       (mk h.of, k.said text h.of (subst (λ l. IsText l h.of) (sym (same h.line h.rest h.first)) h.text), k.fits h.of, λ w. h.past (k.back h.of w))
   text_read (Err why.NoMemory) h = k.takes (words_of text)
 
-spelled_numbers : (ws : List (List ℕ)) (zs : List ℤ) → SpellAll ws zs → SpellWords ws (map Number zs)
+-- words that spell numbers
+pub spelled_numbers : (ws : List (List ℕ)) (zs : List ℤ) → SpellAll ws zs → SpellWords ws (map Number zs)
 spelled_numbers [] [] s = tt
 spelled_numbers [] (z ∷ zs) s = absurd s
 spelled_numbers (w ∷ ws) [] s = absurd s
 spelled_numbers (w ∷ ws) (z ∷ zs) s = (s.0, spelled_numbers ws zs s.1)
 
 -- words are a letter and then numbers
-record Lettered (ws : List (List ℕ)) (l : List ℕ) (zs : List ℤ) : Type 0 where
+pub record Lettered (ws : List (List ℕ)) (l : List ℕ) (zs : List ℤ) : Type 0 where
   pub spellings : List (List ℕ)
   pub words : ws ≡ l ∷ spellings
   pub spelled : SpellAll spellings zs
 
-lettered : (ws : List (List ℕ)) (l : List ℕ) (zs : List ℤ) → SpellWords ws (Letters l ∷ map Number zs) → Lettered ws l zs
+pub lettered : (ws : List (List ℕ)) (l : List ℕ) (zs : List ℤ) → SpellWords ws (Letters l ∷ map Number zs) → Lettered ws l zs
 lettered [] l zs s = absurd s
 lettered (w ∷ ws) l zs s = record { spellings = ws; words = ap (λ x. x ∷ ws) s.0; spelled = numbers_spelled ws zs s.1 }
 

@@ -19,14 +19,15 @@ use Rattle.ps_reader.specs.declared.lines.Lines.{Lines}
 use Rattle.ps_reader.specs.Errors.{IsKept, BeginsKept, LacksAt}
 use Rattle.ps_reader.specs.Taken.{left_in, Takes, FaultAt, IsStopped, IsValueRead, IsMore, repeated}
 
-lines_both : (ls ks : List (List ℕ)) (rest : List ℕ) → lines_bytes false ls ++ (lines_bytes false ks ++ rest) ≡ lines_bytes false (ls ++ ks) ++ rest
+-- the bytes of lines, and then of others
+pub lines_both : (ls ks : List (List ℕ)) (rest : List ℕ) → lines_bytes false ls ++ (lines_bytes false ks ++ rest) ≡ lines_bytes false (ls ++ ks) ++ rest
 lines_both [] ks rest = refl
 lines_both (l ∷ ls) ks rest =
     append_assoc (l ++ 10 ∷ []) (lines_bytes false ls) (lines_bytes false ks ++ rest)
     ∙ ap (λ x. (l ++ 10 ∷ []) ++ x) (lines_both ls ks rest)
     ∙ sym (append_assoc (l ++ 10 ∷ []) (lines_bytes false (ls ++ ks)) rest)
 
-all_both : {X : Type 0} (P : X → Type 0) (xs ys : List X) → AllByRecursion P xs → AllByRecursion P ys → AllByRecursion P (xs ++ ys)
+pub all_both : {X : Type 0} (P : X → Type 0) (xs ys : List X) → AllByRecursion P xs → AllByRecursion P ys → AllByRecursion P (xs ++ ys)
 all_both P [] ys h k = k
 all_both P (x ∷ xs) ys h k = (h.0, all_both P xs ys h.1 k)
 

@@ -17,11 +17,11 @@ back (b ∷ bs) h = by b (first_in IsTruth b bs h) (back bs (rest_in IsTruth b b
     by c (inl e) r = rw e (ap (λ l. 48 ∷ l) r)
     by c (inr e) r = rw e (ap (λ l. 49 ∷ l) r)
 
-same_length : (bs : List ℕ) → length (map (λ b. b == 49) bs) ≡ length bs
+pub same_length : (bs : List ℕ) → length (map (λ b. b == 49) bs) ≡ length bs
 same_length [] = refl
 same_length (b ∷ bs) = ap suc (same_length bs)
 
-text_of : (bs : List ℕ) → bs ≢ [] → All IsTruth bs → bs ≡ world_text (map (λ b. b == 49) bs)
+pub text_of : (bs : List ℕ) → bs ≢ [] → All IsTruth bs → bs ≡ world_text (map (λ b. b == 49) bs)
 text_of [] n h = absurd (n refl)
 text_of (b ∷ bs) n h = sym (back (b ∷ bs) h)
 

@@ -4,9 +4,9 @@ ghost use Rattle.ps_answer.specs.declared.part.Part.TheVariants.{AReport, AModel
 ghost use Rattle.ps_reader.specs.Cursor.{words_in};
 ghost use Rattle.ps_reader.specs.Read.{IsItemRead};
 
-use crate::both::both;
 use crate::kinds::{amount, column, count, number, row, version};
 use crate::line_fault::LineFault;
+use crate::pairs::both;
 use crate::rows::rows;
 use crate::truths::world;
 use crate::words::Words;

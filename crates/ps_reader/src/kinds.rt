@@ -16,7 +16,7 @@ use ps_meaning::PRINTED_LIMIT;
 use ps_table::{Col, TableCol};
 
 /// A count up to a limit.
-pub(crate) fn count(word: &[u8], limit: u64) -> Result<u64, LineFault>
+pub fn count(word: &[u8], limit: u64) -> Result<u64, LineFault>
     ensures { IsWordRead (λ n. count n) (λ n. ⊤) (λ n. n ≤ limit) word.now result }
 {
     Ok(count_up_to(u128::from(limit), word)? as u64)
@@ -56,14 +56,14 @@ pub(crate) fn number(word: &[u8]) -> Result<i128, LineFault>
 }
 
 /// A number from 0 to 2^90.
-pub(crate) fn amount(word: &[u8]) -> Result<i128, LineFault>
+pub fn amount(word: &[u8]) -> Result<i128, LineFault>
     ensures { IsWordRead (λ z. Number z) (λ z. pos 0 ≤ℤ z) IsPrintable word.now result }
 {
     Ok(count_up_to(PRINTED_LIMIT, word)? as i128)
 }
 
 /// The version of a report.
-pub(crate) fn version(word: &[u8]) -> Result<(), LineFault>
+pub fn version(word: &[u8]) -> Result<(), LineFault>
     ensures { IsWordRead (λ u. count 1) (λ u. ⊤) (λ u. ⊤) word.now result }
 {
     match count_up_to(1, word) {

@@ -1,7 +1,6 @@
 //! The reader of reports: the answer of a text, line by line, or the first line at fault.
 #![tactic(auto)]
 
-mod both;
 mod causes;
 mod error;
 mod heads;
@@ -13,6 +12,7 @@ mod lines;
 mod models;
 mod numeral;
 mod openings;
+mod pairs;
 mod places;
 mod queries;
 mod ratio;
@@ -25,6 +25,10 @@ mod wide;
 mod words;
 
 pub use error::LineError;
+pub use kinds::{amount, count, version};
 pub use line::read_line;
+pub use line_fault::LineFault;
+pub use pairs::both;
 pub use ratio::fraction_of;
 pub use report::read_report;
+pub use words::Words;

@@ -7,10 +7,10 @@ ghost use Rattle.ps_reader.specs.Cursor.{words_in};
 ghost use Rattle.ps_reader.specs.Read.{IsItemRead};
 ghost use Rattle.ps_answer.specs.Words.{side_letters};
 
-use crate::both::both;
 use crate::heads::{pivot, priced_world};
 use crate::kinds::{count, query_number};
 use crate::line_fault::LineFault;
+use crate::pairs::both;
 use crate::ratio::value;
 use crate::wide::open_wide;
 use crate::words::{Words, is};

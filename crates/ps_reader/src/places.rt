@@ -4,9 +4,9 @@ ghost use Rattle.ps_reader.specs.Cursor.{words_in};
 ghost use Rattle.ps_reader.specs.Places.{IsFrontRead, IsPlaceRead, price_words, IsPriceWithin};
 ghost use Rattle.ps_reader.specs.Places.{entry_words, IsEntryWithin};
 
-use crate::both::both;
 use crate::kinds::{column, row, table_column, world_number};
 use crate::line_fault::LineFault;
+use crate::pairs::both;
 use crate::words::Words;
 use ps_table::Place;
 

@@ -7,10 +7,10 @@ ghost use Rattle.ps_reader.specs.Ratios.{IsRatioUpTo, IsValueUpTo, IsUnder};
 ghost use Rattle.ps_reader.specs.Ratios.{IsLowest, IsLowestOf, AreParts};
 ghost use Rattle.ps_meaning.specs.Rational.{fraction};
 
-use crate::both::both;
 use crate::kinds::amount;
 use crate::line_fault::LineFault;
 use crate::numeral::{count_up_to, number_up_to};
+use crate::pairs::both;
 use ps_answer::{MOST_OPERAND, Ratio};
 use ps_frac::Fraction;
 use ps_log::split_once;

@@ -5,9 +5,9 @@ ghost use Rattle.ps_reader.specs.Cursor.{words_in};
 ghost use Rattle.ps_reader.specs.Places.{IsPlaceRead, IsBesideTable, IsPrintedPlace};
 ghost use Rattle.ps_reader.specs.Read.{IsItemRead};
 
-use crate::both::both;
 use crate::kinds::op;
 use crate::line_fault::LineFault;
+use crate::pairs::both;
 use crate::places::{
     column_plus, column_times, cost, minus, price_plus, price_times, ratio, scale, scaled_row,
     times, total, weighed_row, weight, whole,

@@ -10,20 +10,20 @@ use ps_log::split_word;
 
 /// The words of a line that are still to be read.
 #[derive(Clone, Copy, Debug, Drop)]
-pub(crate) struct Words<'l> {
+pub struct Words<'l> {
     rest: Option<&'l [u8]>,
 }
 
 impl<'l> Words<'l> {
     /// All words of a line.
-    pub(crate) fn of(line: &'l [u8]) -> Words<'l>
+    pub fn of(line: &'l [u8]) -> Words<'l>
         ensures { words_in result ≡ words_of line.now }
     {
         Words { rest: Some(line) }
     }
 
     /// The next word; without bytes where none is left.
-    pub(crate) fn next(&mut self) -> &'l [u8]
+    pub fn next(&mut self) -> &'l [u8]
         ensures word { result.now ≡ first_of (words_in self.old) }
         ensures later { words_in self.new ≡ later (words_in self.old) }
     {
@@ -38,7 +38,7 @@ impl<'l> Words<'l> {
     }
 
     /// Whether no word is left.
-    pub(crate) fn is_empty(&self) -> bool
+    pub fn is_empty(&self) -> bool
         ensures { IsTrue result ↔ (words_in self.now ≡ []) }
     {
         match self.rest {
@@ -48,7 +48,7 @@ impl<'l> Words<'l> {
     }
 
     /// That no word is left.
-    pub(crate) fn end(&self) -> Result<(), LineFault>
+    pub fn end(&self) -> Result<(), LineFault>
         ensures { AreWordsRead (λ u. []) (λ u. ⊤) (λ u. ⊤) (words_in self.now) result }
     {
         match self.rest {

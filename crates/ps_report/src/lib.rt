@@ -27,3 +27,4 @@ pub use parts::{write_dual, write_model, write_trace};
 pub use queries::{write_parts, write_query_answer};
 pub use report::write_report;
 pub use sides::write_side;
+pub use words::add_world;

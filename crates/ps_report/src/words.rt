@@ -80,7 +80,7 @@ fn lettered_word(letter: u8, n: u32) -> ArrayVec<u8, LONGEST_COLUMN>
 
 /// Adds a world to the line: a digit for each atom, or a dash where there is none.
 #[tactic(auto, using(crate::proofs::Spelled::world_digits))]
-pub(crate) fn add_world<O: Sink>(lines: &mut Lines<'_, O>, world: &World)
+pub fn add_world<O: Sink>(lines: &mut Lines<'_, O>, world: &World)
     requires { length (with_words (text_of lines.old) (Truths world.now ∷ [])) < LONGEST_LINE }
     ensures { AddsWords lines.old lines.new (Truths world.now ∷ []) }
 {

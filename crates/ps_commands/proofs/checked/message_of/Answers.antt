@@ -1,4 +1,4 @@
-use Rattle.ps_commands.specs.Replies.{message_output}
+use Rattle.ps_messages.specs.Messages.{message_output}
 use Rattle.ps_commands.proofs.FoundInputs.{accepted_due, line_due, refused_due, unread_due}
 use Rattle.ps_commands.proofs.checked.message_of.Goals as goal
 

@@ -1,4 +1,4 @@
-use Rattle.ps_commands.specs.Replies.{message_output}
+use Rattle.ps_messages.specs.Messages.{message_output}
 use Rattle.ps_commands.proofs.DueLaws.{explained_due, unexplained_due}
 use Rattle.ps_commands.proofs.explained.reply_to_explain.Goals as goal
 

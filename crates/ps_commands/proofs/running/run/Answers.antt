@@ -1,5 +1,5 @@
 use Rattle.std.proofs.Common.{sym, subst}
-use Rattle.ps_commands.specs.declared.status.Status.{Status}
+use Rattle.ps_messages.specs.declared.status.Status.{Status}
 use Rattle.ps_commands.specs.Commands.{words_of}
 use Rattle.ps_commands.specs.Runs.{Wrote}
 use Rattle.ps_commands.proofs.RunLaws.{reply_ran}

@@ -1,6 +1,6 @@
 use Rattle.ps_claims.specs.Claims.{unfinished_of}
 use Rattle.ps_valid.specs.Answers.{answer_of}
-use Rattle.ps_commands.specs.Replies.{message_output}
+use Rattle.ps_messages.specs.Messages.{message_output}
 use Rattle.ps_commands.proofs.SolveEnds.{ends_solve}
 use Rattle.ps_commands.proofs.DueLaws.{solved_due, unsolved_due}
 use Rattle.ps_commands.proofs.solved.reply_to_solve.Goals as goal

@@ -1,4 +1,4 @@
-use Rattle.ps_commands.specs.Replies.{message_output}
+use Rattle.ps_messages.specs.Messages.{message_output}
 use Rattle.ps_commands.proofs.DueLaws.{upgraded_due, none_upgraded_due}
 use Rattle.ps_commands.proofs.upgraded.reply_to_upgrade.Goals as goal
 

@@ -1,0 +1,5 @@
+-- Meaning
+pub mod FirstOrder
+pub mod Texts
+-- Bridge: formulas as numbered parts
+pub mod Parts

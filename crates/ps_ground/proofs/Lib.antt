@@ -1,0 +1,13 @@
+pub mod Cutting
+pub mod Atoms
+pub mod Truths
+pub mod Merging
+pub mod Listed
+pub mod Weighing
+pub mod Imaging
+pub mod Bounding
+pub mod Marking
+pub mod Counting
+pub mod Nestings
+pub mod Opening
+pub mod AtomNames

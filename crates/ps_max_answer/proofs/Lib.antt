@@ -1,0 +1,4 @@
+pub mod Missed
+pub mod Accepted
+pub mod Judged
+pub mod Unfaulted

@@ -1,0 +1,5 @@
+-- Meaning
+pub mod Answers
+pub mod Optima
+-- Laws, as the functions of laws.rt promise them
+pub mod Laws

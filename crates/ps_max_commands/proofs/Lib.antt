@@ -1,0 +1,9 @@
+pub mod CutInputs
+pub mod Judgements
+pub mod LawfulSteps
+pub mod KnownClauses
+pub mod FoundWithin
+pub mod OneReading
+pub mod OneDue
+pub mod Returns
+pub mod Accepted

@@ -1,0 +1,23 @@
+use Rattle.std.proofs.Common.{◌∙◌, ap, Err, ◌∷◌}
+use Rattle.std.specs.Prelude.{codes}
+use Rattle.std.proofs.lemmas.Result.{err_from_is_err_and}
+use Rattle.ps_reader.specs.Cursor.{words_in}
+use Rattle.ps_max_text.specs.declared.item.MaxItem.TheVariants as line
+use Rattle.ps_max_text.specs.declared.part.MaxPart.TheVariants as part
+use Rattle.ps_max_text.proofs.Making.{made_ok, made_err}
+use Rattle.ps_max_text.proofs.ItemKinds.{log_read}
+use Rattle.ps_max_text.proofs.item_reader.log.Goals as goal
+
+pub returns : goal.returns
+returns c = made_ok part.Log (codes "log" ∷ words_in c.args.words.now) (λ a. line.LogHead a.0) c.both.result _
+    (log_read (words_in c.args.words.now) (words_in c.next.new.self) c.next.result.now c.count-count.result c.end.result c.both.result
+    c.next.ensures.word c.next.ensures.later c.count-count.ensures c.end.ensures c.both.ensures)
+    c.in_ok-count.was
+
+pub returns-in_err-count : goal.returns-in_err-count
+returns-in_err-count c =
+    let f = err_from_is_err_and c.from_residual.result c.from_residual.ensures.1 in
+    made_err part.Log (codes "log" ∷ words_in c.args.words.now) (λ a. line.LogHead a.0) c.both.result c.in_err-count.field-0.0 c.from_residual.result
+    (log_read (words_in c.args.words.now) (words_in c.next.new.self) c.next.result.now c.count-count.result c.end.result c.both.result
+    c.next.ensures.word c.next.ensures.later c.count-count.ensures c.end.ensures c.both.ensures)
+    c.in_err-count.was (f.1 ∙ ap Err f.2)

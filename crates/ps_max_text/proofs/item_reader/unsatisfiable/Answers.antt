@@ -1,0 +1,17 @@
+use Rattle.std.proofs.Common.{◌∙◌, ap, Err, ◌∷◌}
+use Rattle.std.specs.Prelude.{codes}
+use Rattle.std.proofs.lemmas.Result.{err_from_is_err_and}
+use Rattle.ps_reader.specs.Cursor.{words_in}
+use Rattle.ps_max_text.specs.declared.item.MaxItem.TheVariants as line
+use Rattle.ps_max_text.specs.declared.part.MaxPart.TheVariants as part
+use Rattle.ps_max_text.proofs.Making.{made_ok, made_err}
+use Rattle.ps_max_text.proofs.ItemKinds.{unsatisfiable_read}
+use Rattle.ps_max_text.proofs.item_reader.unsatisfiable.Goals as goal
+
+pub returns : goal.returns
+returns c = made_ok part.Answer (codes "unsatisfiable" ∷ words_in c.args.words.now) (λ u. line.Unsatisfiable) c.end.result tt (unsatisfiable_read (words_in c.args.words.now) c.end.result c.end.ensures) c.in_ok-end.was
+
+pub returns-in_err-end : goal.returns-in_err-end
+returns-in_err-end c =
+    let f = err_from_is_err_and c.from_residual.result c.from_residual.ensures.1 in
+    made_err part.Answer (codes "unsatisfiable" ∷ words_in c.args.words.now) (λ u. line.Unsatisfiable) c.end.result c.in_err-end.field-0.0 c.from_residual.result (unsatisfiable_read (words_in c.args.words.now) c.end.result c.end.ensures) c.in_err-end.was (f.1 ∙ ap Err f.2)

@@ -1,0 +1,4 @@
+pub mod Logged
+pub mod Printing
+pub mod Handed
+pub mod Settings

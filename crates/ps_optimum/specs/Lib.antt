@@ -1,0 +1,3 @@
+-- Meaning
+pub mod Searches
+pub mod Printed

@@ -1,0 +1,14 @@
+pub mod Named
+pub mod Worths
+pub mod Extended
+pub mod Cutting
+pub mod Digits
+pub mod Closing
+pub mod Saying
+pub mod Shapes
+pub mod Drafts
+pub mod SoFar
+pub mod Weighed
+pub mod Building
+pub mod Based
+pub mod Placed
