@@ -27,6 +27,8 @@ fn settings(style: Style) -> Settings
         },
         digits: DIGITS,
         style,
+        tells_support: false,
+        tells_examples: false,
         reports: true,
         warns: Wanted::all(true),
         is_timed: false,

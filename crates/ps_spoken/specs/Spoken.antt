@@ -22,6 +22,8 @@ use Rattle.ps_spoken.specs.declared.cause.TheConstants.{OUT_OF_TIME}
 use Rattle.ps_spoken.specs.Numbers.{fraction_text, low_text, high_text}
 use Rattle.ps_spoken.specs.declared.reached.Reached.{Reached}
 use Rattle.ps_spoken.specs.Reached.{lower_between, upper_between}
+use Rattle.ps_spoken.specs.declared.details.Details.{Details}
+use Rattle.ps_spoken.specs.Details.{beneath_text}
 
 -- a limit between words
 abbrev pub limit_text : List ℕ → ℕ → List ℕ → List ℕ
@@ -102,16 +104,17 @@ answer_text digits (query.Bounds lower lower_trace upper upper_trace) r = bounds
 answer_text digits (query.Impossible d) r = codes "  impossible: the sentences give the condition probability 0\n"
 answer_text digits (query.Open c) r = codes "  open: " ++ (cause_text c ++ (codes "\n" ++ between_both digits r))
 
--- a query by its own text, and the answer to it
-abbrev pub part_text : ℕ → Parts → Query → QueryPart → Option Reached → List ℕ
-part_text digits p q part r = probability_text p q.formula q.given ++ (codes "\n" ++ answer_text digits part.answer r)
+-- a query by its own text, the answer to it, and what is told of it
+abbrev pub part_text : ℕ → Parts → Query → QueryPart → Details → List ℕ
+part_text digits p q part t = probability_text p q.formula q.given
+    ++ (codes "\n" ++ (answer_text digits part.answer t.reached ++ beneath_text digits p t))
 
--- the queries, each with the answer to it and what is reached of it, as far as all three lists go
-abbrev pub parts_text : ℕ → Parts → List Query → List QueryPart → List (Option Reached) → List ℕ
-parts_text digits p [] parts rs = []
-parts_text digits p (q ∷ qs) [] rs = []
+-- the queries, each with the answer to it and what is told of it, as far as all three lists go
+abbrev pub parts_text : ℕ → Parts → List Query → List QueryPart → List Details → List ℕ
+parts_text digits p [] parts ts = []
+parts_text digits p (q ∷ qs) [] ts = []
 parts_text digits p (q ∷ qs) (part ∷ parts) [] = []
-parts_text digits p (q ∷ qs) (part ∷ parts) (r ∷ rs) = part_text digits p q part r ++ parts_text digits p qs parts rs
+parts_text digits p (q ∷ qs) (part ∷ parts) (t ∷ ts) = part_text digits p q part t ++ parts_text digits p qs parts ts
 
 -- the verdict
 abbrev pub verdict_text : Verdict → List ℕ
@@ -119,6 +122,6 @@ verdict_text (Consistent m) = codes "consistent: some distribution meets all sen
 verdict_text (Inconsistent d) = codes "inconsistent: no distribution meets all sentences\n"
 verdict_text (Open c) = codes "open: whether a distribution meets all sentences isn't known; " ++ (cause_text c ++ codes "\n")
 
--- what is written of an answer to a problem: the verdict, and each query with the answer to it and what is reached of it
-unfoldable pub spoken : ℕ → Parts → Answer → List (Option Reached) → List ℕ
-spoken digits p a rs = verdict_text a.verdict ++ parts_text digits p p.queries a.parts rs
+-- what is written of an answer to a problem: the verdict, and each query with the answer to it and what is told of it
+unfoldable pub spoken : ℕ → Parts → Answer → List Details → List ℕ
+spoken digits p a ts = verdict_text a.verdict ++ parts_text digits p p.queries a.parts ts

@@ -209,6 +209,14 @@ impl Reading {
         match word {
             "--quiet" => self.style(Style::Values),
             "--json" => self.style(Style::Json),
+            "--why" => {
+                self.asked.settings.tells_support = true;
+                Ok(())
+            }
+            "--example" => {
+                self.asked.settings.tells_examples = true;
+                Ok(())
+            }
             "--no-warnings" => {
                 self.asked.settings.warns = no_kinds();
                 Ok(())

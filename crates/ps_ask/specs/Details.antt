@@ -1,0 +1,63 @@
+-- What is told of the queries of a problem, and when it is true.
+use Rattle.std.specs.Prelude.{◌≡◌, ◌&&◌, Bool, true, false, List, map, length, Option, is_some, IfSome}
+use Rattle.std.specs.List.{AllZip}
+use Rattle.std.specs.List.Sorted.{IsPermutation}
+use Rattle.ps_meaning.specs.Distribution.{total}
+use Rattle.ps_problem.specs.declared.query.Query.{Query}
+use Rattle.ps_problem.specs.Problems.{Parts, bounds_of}
+use Rattle.ps_answer.specs.declared.answer.Model.{Model}
+use Rattle.ps_answer.specs.declared.answer.SideAnswer.{SideAnswer}
+use Rattle.ps_answer.specs.declared.answer.SideAnswer.TheVariants.{Bound, Open}
+use Rattle.ps_claims.specs.Certificates.{entries}
+use Rattle.ps_claims.specs.Queries.{Reaches}
+use Rattle.ps_claims.specs.Validity.{query_of}
+use Rattle.ps_support.specs.declared.bound_side.BoundSide.{BoundSide}
+use Rattle.ps_support.specs.declared.bound_side.BoundSide.TheVariants.{Lower, Upper}
+use Rattle.ps_support.specs.declared.example.Example.{Example}
+use Rattle.ps_support.specs.declared.support.Support.{Support}
+use Rattle.ps_support.specs.Examples.{likely_of}
+use Rattle.ps_support.specs.Supports.{RestsOn, numbers_of, side_of}
+use Rattle.ps_spoken.specs.declared.details.Details.{Details}
+use Rattle.ps_spoken.specs.declared.details.SideDetails.{SideDetails}
+use Rattle.ps_ask.specs.declared.settings.Settings.{Settings}
+use Rattle.ps_ask.specs.Known.{IsBoundAt}
+use Rattle.ps_ask.specs.Reached.{IsReachedAsTold}
+
+-- the bound holds in every distribution that meets the sentences alone that are told
+abbrev pub IsSupport : Parts → Query → BoundSide → Support → Type 0
+IsSupport p q side s = RestsOn p (query_of p.nodes q) (side_of side) s.value (numbers_of s.sentences)
+
+-- the worlds that are told are those of a distribution that meets all sentences, gives the condition weight and the query the value
+pub record IsExample (p : Parts) (q : Query) (e : Example) : Type 0 where
+  pub model : Model
+  pub reached : Reaches (length p.names) (bounds_of p) (query_of p.nodes q) e.value (entries model.worlds)
+  pub total : model.total ≡ total (entries model.worlds)
+  pub worlds : IsPermutation (map (likely_of model.total) model.worlds) e.worlds
+
+-- what is told of a bound is true
+pub record IsTrueOfSide (p : Parts) (q : Query) (side : BoundSide) (t : SideDetails) : Type 0 where
+  pub support : IfSome t.support (IsSupport p q side)
+  pub example : IfSome t.example (IsExample p q)
+
+-- what is told of a query is true
+pub record IsTrueOf (p : Parts) (q : Query) (t : Details) : Type 0 where
+  pub reached : IsReachedAsTold p q t.reached
+  pub lower : IsTrueOfSide p q Lower t.lower
+  pub upper : IsTrueOfSide p q Upper t.upper
+
+-- so it is of each of these queries
+abbrev pub AreTrueOf : Parts → List Query → List Details → Type 0
+AreTrueOf p qs ts = AllZip (IsTrueOf p) qs ts
+
+-- ---- what is asked for
+-- the side is a bound
+abbrev pub is_bound : SideAnswer → Bool
+is_bound (Bound value m d) = true
+is_bound (Open c) = false
+
+-- of a bound it is told what is asked for, at its value, and of a side that is open nothing
+pub record IsAsAsked (s : Settings) (a : SideAnswer) (t : SideDetails) : Type 0 where
+  pub support : is_some t.support ≡ s.tells_support && is_bound a
+  pub supported : IfSome t.support (λ x. IsBoundAt a x.value)
+  pub example : is_some t.example ≡ s.tells_examples && is_bound a
+  pub reached : IfSome t.example (λ x. IsBoundAt a x.value)

@@ -1,0 +1,112 @@
+//! What is told of a query beneath the answer to it.
+ghost use Rattle.std.specs.Prelude.{IfOk};
+ghost use Rattle.ps_problem.specs.Problems.{HasNodes};
+ghost use Rattle.ps_support.specs.Supports.{kind_of};
+ghost use Rattle.ps_ask.specs.Details.{IsAsAsked, IsTrueOf, IsTrueOfSide};
+ghost use Rattle.ps_ask.specs.Known.{IsModelFor, IsRightFor, IsShownFor, IsShownSide};
+
+use crate::reached::reached_of;
+use crate::settings::Settings;
+use ps_answer::{Model, QueryAnswer, SideAnswer};
+use ps_io::NoMemory;
+use ps_problem::{Problem, Query};
+use ps_spoken::{Details, SideDetails};
+use ps_support::{BoundSide, Example, Support, example_of, support_of};
+use std::alloc::Global;
+
+// The sentences on which the bound of a side rests, where they are asked for and it is one.
+fn support_in(
+    alloc: Global,
+    settings: Settings,
+    problem: &Problem,
+    query: Query,
+    side: BoundSide,
+    answer: &SideAnswer,
+    lines: &[u32],
+) -> Result<Option<Support>, NoMemory>
+    requires query { HasNodes problem.now.nodes query.formula query.given query.both }
+    requires shown { IsShownSide problem.now (kind_of side) query answer.now }
+{
+    if !settings.tells_support {
+        return Ok(None);
+    }
+    match answer {
+        SideAnswer::Bound { value, dual, .. } => {
+            let support = support_of(alloc, problem, side, query, value, dual, lines)?;
+            Ok(Some(support))
+        }
+        SideAnswer::Open(_) => Ok(None),
+    }
+}
+
+// A distribution that reaches the bound of a side, where one is asked for and it is one.
+fn example_in(
+    alloc: Global,
+    settings: Settings,
+    answer: &SideAnswer,
+) -> Result<Option<Example>, NoMemory> {
+    if !settings.tells_examples {
+        return Ok(None);
+    }
+    match answer {
+        SideAnswer::Bound { value, model, .. } => Ok(Some(example_of(alloc, value, model)?)),
+        SideAnswer::Open(_) => Ok(None),
+    }
+}
+
+// What is told of a side.
+fn side_details(
+    alloc: Global,
+    settings: Settings,
+    problem: &Problem,
+    query: Query,
+    side: BoundSide,
+    answer: &SideAnswer,
+    lines: &[u32],
+) -> Result<SideDetails, NoMemory>
+    requires query { HasNodes problem.now.nodes query.formula query.given query.both }
+    requires shown { IsShownSide problem.now (kind_of side) query answer.now }
+    ensures true_of { IfOk result (IsTrueOfSide problem.now query side) }
+    ensures asked { IfOk result (IsAsAsked settings answer.now) }
+{
+    let support = support_in(alloc, settings, problem, query, side, answer, lines)?;
+    let example = example_in(alloc, settings, answer)?;
+    Ok(SideDetails { support, example })
+}
+
+/// What is told of a query beneath the answer to it: what is reached of it where it is open, and of
+/// each bound, where that is asked for, the sentences on which it rests and a distribution that
+/// reaches it.
+pub(crate) fn details_of(
+    alloc: Global,
+    settings: Settings,
+    problem: &Problem,
+    query: Query,
+    answer: &QueryAnswer,
+    model: &Model,
+    lines: &[u32],
+) -> Result<Details, NoMemory>
+    requires query { HasNodes problem.now.nodes query.formula query.given query.both }
+    requires model { IsModelFor problem.now model.now }
+    requires right { IsRightFor problem.now query answer.now }
+    requires shown { IsShownFor problem.now query answer.now }
+    ensures { IfOk result (IsTrueOf problem.now query) }
+{
+    let reached = reached_of(alloc, problem, query, answer, model)?;
+    match answer {
+        QueryAnswer::Bounds { lower, upper, .. } => {
+            let below = BoundSide::Lower;
+            let above = BoundSide::Upper;
+            Ok(Details {
+                reached,
+                lower: side_details(alloc, settings, problem, query, below, lower, lines)?,
+                upper: side_details(alloc, settings, problem, query, above, upper, lines)?,
+            })
+        }
+        QueryAnswer::Impossible(_) | QueryAnswer::Open(_) => Ok(Details {
+            reached,
+            lower: SideDetails::none(),
+            upper: SideDetails::none(),
+        }),
+    }
+}
