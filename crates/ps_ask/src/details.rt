@@ -1,9 +1,11 @@
 //! What is told of a query beneath the answer to it.
-ghost use Rattle.std.specs.Prelude.{IfOk};
+ghost use Rattle.std.specs.Prelude.{◌≡◌, ◌&&◌, IfOk, IfSome, is_some};
 ghost use Rattle.ps_problem.specs.Problems.{HasNodes};
 ghost use Rattle.ps_support.specs.Supports.{kind_of};
-ghost use Rattle.ps_ask.specs.Details.{IsAsAsked, IsTrueOf, IsTrueOfSide};
-ghost use Rattle.ps_ask.specs.Known.{IsModelFor, IsRightFor, IsShownFor, IsShownSide};
+ghost use Rattle.ps_ask.specs.Details.{IsAsAsked, IsExample, IsSupport, IsTrueOf};
+ghost use Rattle.ps_ask.specs.Details.{IsTrueOfSide, is_bound};
+ghost use Rattle.ps_ask.specs.Known.{IsBoundAt, IsModelFor, IsProvedFor, IsProvedSide};
+ghost use Rattle.ps_ask.specs.Known.{IsRightFor};
 
 use crate::reached::reached_of;
 use crate::settings::Settings;
@@ -25,7 +27,11 @@ fn support_in(
     lines: &[u32],
 ) -> Result<Option<Support>, NoMemory>
     requires query { HasNodes problem.now.nodes query.formula query.given query.both }
-    requires shown { IsShownSide problem.now (kind_of side) query answer.now }
+    requires proved { IsProvedSide problem.now (kind_of side) query answer.now }
+    ensures true_of { IfOk result (λ o. IfSome o (IsSupport problem.now query side)) }
+    ensures asked { IfOk result
+        (λ o. is_some o ≡ settings.tells_support && is_bound answer.now) }
+    ensures value { IfOk result (λ o. IfSome o (λ s. IsBoundAt answer.now s.value)) }
 {
     if !settings.tells_support {
         return Ok(None);
@@ -43,8 +49,17 @@ fn support_in(
 fn example_in(
     alloc: Global,
     settings: Settings,
+    problem: &Problem,
+    query: Query,
+    side: BoundSide,
     answer: &SideAnswer,
-) -> Result<Option<Example>, NoMemory> {
+) -> Result<Option<Example>, NoMemory>
+    requires proved { IsProvedSide problem.now (kind_of side) query answer.now }
+    ensures true_of { IfOk result (λ o. IfSome o (IsExample problem.now query)) }
+    ensures asked { IfOk result
+        (λ o. is_some o ≡ settings.tells_examples && is_bound answer.now) }
+    ensures value { IfOk result (λ o. IfSome o (λ e. IsBoundAt answer.now e.value)) }
+{
     if !settings.tells_examples {
         return Ok(None);
     }
@@ -65,12 +80,12 @@ fn side_details(
     lines: &[u32],
 ) -> Result<SideDetails, NoMemory>
     requires query { HasNodes problem.now.nodes query.formula query.given query.both }
-    requires shown { IsShownSide problem.now (kind_of side) query answer.now }
+    requires proved { IsProvedSide problem.now (kind_of side) query answer.now }
     ensures true_of { IfOk result (IsTrueOfSide problem.now query side) }
     ensures asked { IfOk result (IsAsAsked settings answer.now) }
 {
     let support = support_in(alloc, settings, problem, query, side, answer, lines)?;
-    let example = example_in(alloc, settings, answer)?;
+    let example = example_in(alloc, settings, problem, query, side, answer)?;
     Ok(SideDetails { support, example })
 }
 
@@ -89,7 +104,7 @@ pub(crate) fn details_of(
     requires query { HasNodes problem.now.nodes query.formula query.given query.both }
     requires model { IsModelFor problem.now model.now }
     requires right { IsRightFor problem.now query answer.now }
-    requires shown { IsShownFor problem.now query answer.now }
+    requires proved { IsProvedFor problem.now query answer.now }
     ensures { IfOk result (IsTrueOf problem.now query) }
 {
     let reached = reached_of(alloc, problem, query, answer, model)?;
