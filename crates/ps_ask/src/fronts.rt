@@ -111,7 +111,15 @@ fn part_with_piece<W: Company>(
 {
     let part = judged_part(alloc, settings, trials, query, pending)?;
     let answer = &part.answer;
-    let told = details_of(alloc, settings, trials.problem(), query, answer, model, lines)?;
+    let told = details_of(
+        alloc,
+        settings,
+        trials.problem(),
+        query,
+        answer,
+        model,
+        lines,
+    )?;
     let text = part_piece(alloc, settings, trials.problem(), query, &part, &told)?;
     timed.watch.clear();
     Ok(((part, told), text))
@@ -306,11 +314,7 @@ fn warn_of_conditions<W: Company>(
 }
 
 // The lines on which the sentences of an input begin, where they are told beneath bounds.
-fn lines_told(
-    alloc: Global,
-    settings: Settings,
-    input: Input<'_>,
-) -> Result<Vec<u32>, NoMemory> {
+fn lines_told(alloc: Global, settings: Settings, input: Input<'_>) -> Result<Vec<u32>, NoMemory> {
     if settings.tells_support {
         return sentence_lines(alloc, input.bytes);
     }

@@ -21,11 +21,7 @@ pub const LONG_DENOMINATOR: i128 = 1_000_000;
 
 // Writes a probability: as a fraction where that is short, and else as a decimal.
 #[tactic(auto, unfolding(crate::specs::Examples::probability_text))]
-fn write_probability(
-    out: &mut Vec<u8>,
-    probability: &Fraction,
-    digits: u32,
-) -> Result<(), NoMemory>
+fn write_probability(out: &mut Vec<u8>, probability: &Fraction, digits: u32) -> Result<(), NoMemory>
     requires some { 0 < digits }
     requires few { digits ≤ MOST_DIGITS }
     ensures { Says result out.old.items out.new.items (probability_text digits probability.now) }
@@ -38,11 +34,7 @@ fn write_probability(
 }
 
 /// Writes the name of an atom; nothing where there is no such atom.
-pub(crate) fn write_atom(
-    out: &mut Vec<u8>,
-    problem: &Problem,
-    atom: usize,
-) -> Result<(), NoMemory>
+pub(crate) fn write_atom(out: &mut Vec<u8>, problem: &Problem, atom: usize) -> Result<(), NoMemory>
     ensures { Says result out.old.items out.new.items (atom_text problem.now atom) }
 {
     if atom >= problem.atoms() as usize {

@@ -167,11 +167,7 @@ fn write_likely(
 }
 
 // Writes the worlds of a distribution.
-fn write_all_likely(
-    out: &mut Vec<u8>,
-    problem: &Problem,
-    worlds: &[Likely],
-) -> Result<(), NoMemory>
+fn write_all_likely(out: &mut Vec<u8>, problem: &Problem, worlds: &[Likely]) -> Result<(), NoMemory>
     ensures { Says result out.old.items out.new.items (likely_items problem.now worlds.now) }
 {
     for place in 0..worlds.len() {

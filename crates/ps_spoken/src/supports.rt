@@ -64,11 +64,7 @@ fn end_words(end: End) -> &'static [u8]
 }
 
 // Writes which number of a sentence a bound rests on, and how it moves with that.
-fn write_moves(
-    out: &mut Vec<u8>,
-    side: BoundSide,
-    sentence: &Supporting,
-) -> Result<(), NoMemory>
+fn write_moves(out: &mut Vec<u8>, side: BoundSide, sentence: &Supporting) -> Result<(), NoMemory>
     ensures { Says result out.old.items out.new.items (moves_text side sentence.now) }
 {
     match (sentence.end, &sentence.hundredth) {

@@ -62,8 +62,8 @@ owned-from before (s ∷ ss) =
     let here = owned-here all (suc (length before)) (bounds_of_sentence s) (count s) (λ b h. subst (λ (bs : List BoundIn). Contains bs b) (sym (bounds-behind before s ss)) h) in
     let same : (before ++ s ∷ []) ++ ss ≡ all = append_assoc before (s ∷ []) ss in
     let later : AllZip (IsOwned all) (bounds_in ss) (places_in (suc (suc (length before))) ss) =
-        subst (λ (k : ℕ). AllZip (IsOwned all) (bounds_in ss) (places_in (suc k) ss)) (length-next before s)
-        (subst (λ (xs : List Sentence). AllZip (IsOwned xs) (bounds_in ss) (places_in (suc (length (before ++ s ∷ []))) ss)) same (owned-from (before ++ s ∷ []) ss)) in
+    subst (λ (k : ℕ). AllZip (IsOwned all) (bounds_in ss) (places_in (suc k) ss)) (length-next before s)
+    (subst (λ (xs : List Sentence). AllZip (IsOwned xs) (bounds_in ss) (places_in (suc (length (before ++ s ∷ []))) ss)) same (owned-from (before ++ s ∷ []) ss)) in
     zip-append (IsOwned all) (bounds_of_sentence s) (bounds_in ss) (places_of (suc (length before)) (length (bounds_of_sentence s))) (places_in (suc (suc (length before))) ss) here later
 
 -- so is each bound of some sentences

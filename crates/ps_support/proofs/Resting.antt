@@ -107,15 +107,12 @@ meets p d (b ∷ bs) [] ys own named = absurd own
 meets p d (b ∷ bs) (x ∷ places) [] own named = absurd named
 meets p d (b ∷ bs) (x ∷ places) (y ∷ ys) own named = by (is_other y) refl
   where
-    abbrev rest : List Bound
-    rest = kept_of (map is_other ys) (map (bound_of p.nodes) bs)
-
-    later : MeetsAll rest d
+    later : MeetsAll (kept_of (map is_other ys) (map (bound_of p.nodes) bs)) d
     later = meets p d bs places ys own.1 named.1
 
     by : (k : Bool) → is_other y ≡ k → MeetsAll (kept_of (k ∷ map is_other ys) (map (bound_of p.nodes) (b ∷ bs))) d
     by true e =
-        All-cons (λ c. MeetsBound c d) (bound_of p.nodes b) rest
+        All-cons (λ c. MeetsBound c d) (bound_of p.nodes b) (kept_of (map is_other ys) (map (bound_of p.nodes) bs))
         (contained (λ c. MeetsBound (bound_of p.nodes c) d) (bounds_at (slice_get p.sentences (x.sentence - 1))) b
         (mapped (bound_of p.nodes) (λ c. MeetsBound c d) (bounds_at (slice_get p.sentences (x.sentence - 1))) (named.0 e)) own.0)
         later
@@ -135,15 +132,15 @@ module _ (p : Parts) (side : BoundSide) (q : stored.Query) (value : Rational) (d
     met = λ e h.
         let places = places_in 1 p.sentences in
         let holds : Holds (length p.names) (kept_of (map is_other d.rows) (bounds_of p)) (query_of p.nodes q) (side_of side) value =
-            holds_kept (length p.names) side (map is_other d.rows) (bounds_of p) (problem_rows p) (query_of p.nodes q) value (dual_of d) (problem-rows p are) shown.refuted.signs
-            (zero_elsewhere d.rows) shown.head (never_above p (kind_of side) q (dual_of d) are has shown.refuted) in
+        holds_kept (length p.names) side (map is_other d.rows) (bounds_of p) (problem_rows p) (query_of p.nodes q) value (dual_of d) (problem-rows p are) shown.refuted.signs
+        (zero_elsewhere d.rows) shown.head (never_above p (kind_of side) q (dual_of d) are has shown.refuted) in
         let all : All (λ (s : Supporting). MeetsSentence p e s.sentence) (supports_in p side q d lines) =
-            All-permutation (λ (s : Supporting). MeetsSentence p e s.sentence) told (supports_in p side q d lines) (IsPermutation-sym (supports_in p side q d lines) told moved)
-            (mapped (λ (s : Supporting). s.sentence) (MeetsSentence p e) told h.met) in
+        All-permutation (λ (s : Supporting). MeetsSentence p e s.sentence) told (supports_in p side q d lines) (IsPermutation-sym (supports_in p side q d lines) told moved)
+        (mapped (λ (s : Supporting). s.sentence) (MeetsSentence p e) told h.met) in
         let long : length places ≡ length (bounds_in p.sentences) = AllZip-long (IsOwned p.sentences) (bounds_in p.sentences) places (owned p.sentences) in
         let met = meets p e (bounds_in p.sentences) places d.rows (owned p.sentences)
-            (named-zip (MeetsSentence p e) places d.rows (long ∙ sym rows_as_bounds)
-            (λ i place lt g f. named-at p side q d lines (MeetsSentence p e) i place g f
-            (to-each p side q d lines (MeetsSentence p e) (length (bounds_in p.sentences)) all i (subst (λ (n : ℕ). i < n) long lt)))) in
+        (named-zip (MeetsSentence p e) places d.rows (long ∙ sym rows_as_bounds)
+        (λ i place lt g f. named-at p side q d lines (MeetsSentence p e) i place g f
+        (to-each p side q d lines (MeetsSentence p e) (length (bounds_in p.sentences)) all i (subst (λ (n : ℕ). i < n) long lt)))) in
         holds.met e (record { model = record { distribution = h.distribution; met = met }; positive = h.positive });
   }

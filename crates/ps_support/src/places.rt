@@ -28,11 +28,7 @@ pub struct BoundPlace {
 }
 
 // Notes the places of so many bounds of a sentence: of an interval there are two.
-fn push_places(
-    places: &mut List<BoundPlace>,
-    sentence: u32,
-    bounds: u32,
-) -> Result<(), NoMemory>
+fn push_places(places: &mut List<BoundPlace>, sentence: u32, bounds: u32) -> Result<(), NoMemory>
     ensures { OnOk result (places.new ≡ places.old ++ places_of sentence bounds) }
 {
     if bounds != 2 {
