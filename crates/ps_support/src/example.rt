@@ -55,7 +55,7 @@ fn true_atoms(alloc: Global, world: &World) -> Result<List<usize>, NoMemory>
 }
 
 // A world of a distribution of this total.
-fn likely(alloc: Global, total: i128, weighted: &Weighted) -> Result<Likely, NoMemory>
+fn likely_in(alloc: Global, total: i128, weighted: &Weighted) -> Result<Likely, NoMemory>
     requires total { pos 0 <ℤ total }
     requires weight { Fits weighted.now.weight }
     ensures { IfOk result (λ it. it ≡ likely_of total weighted.now) }
@@ -75,7 +75,7 @@ fn all_likely(alloc: Global, model: &Model) -> Result<Vec<Likely>, NoMemory>
 {
     let mut worlds = Vec::new(alloc);
     for weighted in model.worlds.as_slice() {
-        worlds.push(likely(alloc, model.total, weighted)?)?;
+        worlds.push(likely_in(alloc, model.total, weighted)?)?;
     }
     Ok(worlds)
 }
