@@ -7,28 +7,65 @@ ghost use Rattle.ps_ask.specs.Details.{IsTrueOfSide, is_bound};
 ghost use Rattle.ps_ask.specs.Known.{IsBoundAt, IsModelFor, IsProvedFor, IsProvedSide};
 ghost use Rattle.ps_ask.specs.Known.{IsRightFor};
 
+use crate::lean::lean_bound;
 use crate::reached::reached_of;
 use crate::settings::Settings;
 use ps_answer::{Model, QueryAnswer, SideAnswer};
+use ps_guess::{Trials, Watch};
 use ps_io::NoMemory;
 use ps_problem::{Problem, Query};
 use ps_spoken::{Details, SideDetails};
 use ps_support::{BoundSide, Example, Support, example_of, support_of};
 use std::alloc::Global;
 
-// The sentences on which the bound of a side rests, where they are asked for and it is one.
-fn support_in(
+// The sentences on which a bound rests, by a dual without certainties that it doesn't need.
+fn support_by<W: Watch>(
     alloc: Global,
-    settings: Settings,
-    problem: &Problem,
+    trials: &Trials<'_>,
     query: Query,
     side: BoundSide,
     answer: &SideAnswer,
     lines: &[u32],
+    watch: &mut W,
 ) -> Result<Option<Support>, NoMemory>
-    requires query { HasNodes problem.now.nodes query.formula query.given query.both }
-    requires proved { IsProvedSide problem.now (kind_of side) query answer.now }
-    ensures true_of { IfOk result (λ o. IfSome o (IsSupport problem.now query side)) }
+    requires query { HasNodes trials.now.nodes query.formula query.given query.both }
+    requires proved { IsProvedSide trials.now (kind_of side) query answer.now }
+    ensures true_of { IfOk result (λ o. IfSome o (IsSupport trials.now query side)) }
+    ensures asked { IfOk result (λ o. is_some o ≡ is_bound answer.now) }
+    ensures value { IfOk result (λ o. IfSome o (λ s. IsBoundAt answer.now s.value)) }
+{
+    let SideAnswer::Bound { value, model, dual } = answer else {
+        return Ok(None);
+    };
+    let problem = trials.problem();
+    match lean_bound(alloc, trials, side, query, model, dual, watch)? {
+        Some(
+            SideAnswer::Bound {
+                value: same,
+                dual: lean,
+                ..
+            },
+        ) if same == *value => Ok(Some(support_of(
+            alloc, problem, side, query, value, &lean, lines,
+        )?)),
+        _ => Ok(Some(support_of(alloc, problem, side, query, value, dual, lines)?)),
+    }
+}
+
+// The sentences on which the bound of a side rests, where they are asked for and it is one.
+fn support_in<W: Watch>(
+    alloc: Global,
+    settings: Settings,
+    trials: &Trials<'_>,
+    query: Query,
+    side: BoundSide,
+    answer: &SideAnswer,
+    lines: &[u32],
+    watch: &mut W,
+) -> Result<Option<Support>, NoMemory>
+    requires query { HasNodes trials.now.nodes query.formula query.given query.both }
+    requires proved { IsProvedSide trials.now (kind_of side) query answer.now }
+    ensures true_of { IfOk result (λ o. IfSome o (IsSupport trials.now query side)) }
     ensures asked { IfOk result
         (λ o. is_some o ≡ settings.tells_support && is_bound answer.now) }
     ensures value { IfOk result (λ o. IfSome o (λ s. IsBoundAt answer.now s.value)) }
@@ -36,13 +73,7 @@ fn support_in(
     if !settings.tells_support {
         return Ok(None);
     }
-    match answer {
-        SideAnswer::Bound { value, dual, .. } => {
-            let support = support_of(alloc, problem, side, query, value, dual, lines)?;
-            Ok(Some(support))
-        }
-        SideAnswer::Open(_) => Ok(None),
-    }
+    support_by(alloc, trials, query, side, answer, lines, watch)
 }
 
 // A distribution that reaches the bound of a side, where one is asked for and it is one.
@@ -70,58 +101,57 @@ fn example_in(
 }
 
 // What is told of a side.
-fn side_details(
+fn side_details<W: Watch>(
     alloc: Global,
     settings: Settings,
-    problem: &Problem,
+    trials: &Trials<'_>,
     query: Query,
     side: BoundSide,
     answer: &SideAnswer,
     lines: &[u32],
+    watch: &mut W,
 ) -> Result<SideDetails, NoMemory>
-    requires query { HasNodes problem.now.nodes query.formula query.given query.both }
-    requires proved { IsProvedSide problem.now (kind_of side) query answer.now }
-    ensures true_of { IfOk result (IsTrueOfSide problem.now query side) }
+    requires query { HasNodes trials.now.nodes query.formula query.given query.both }
+    requires proved { IsProvedSide trials.now (kind_of side) query answer.now }
+    ensures true_of { IfOk result (IsTrueOfSide trials.now query side) }
     ensures asked { IfOk result (IsAsAsked settings answer.now) }
 {
-    let support = support_in(alloc, settings, problem, query, side, answer, lines)?;
-    let example = example_in(alloc, settings, problem, query, side, answer)?;
+    let support = support_in(alloc, settings, trials, query, side, answer, lines, watch)?;
+    let example = example_in(alloc, settings, trials.problem(), query, side, answer)?;
     Ok(SideDetails { support, example })
 }
 
 /// What is told of a query beneath the answer to it: what is reached of it where it is open, and of
 /// each bound, where that is asked for, the sentences on which it rests and a distribution that
 /// reaches it.
-pub(crate) fn details_of(
+pub(crate) fn details_of<W: Watch>(
     alloc: Global,
     settings: Settings,
-    problem: &Problem,
+    trials: &Trials<'_>,
     query: Query,
     answer: &QueryAnswer,
     model: &Model,
     lines: &[u32],
+    watch: &mut W,
 ) -> Result<Details, NoMemory>
-    requires query { HasNodes problem.now.nodes query.formula query.given query.both }
-    requires model { IsModelFor problem.now model.now }
-    requires right { IsRightFor problem.now query answer.now }
-    requires proved { IsProvedFor problem.now query answer.now }
-    ensures { IfOk result (IsTrueOf problem.now query) }
+    requires query { HasNodes trials.now.nodes query.formula query.given query.both }
+    requires model { IsModelFor trials.now model.now }
+    requires right { IsRightFor trials.now query answer.now }
+    requires proved { IsProvedFor trials.now query answer.now }
+    ensures { IfOk result (IsTrueOf trials.now query) }
 {
-    let reached = reached_of(alloc, problem, query, answer, model)?;
-    match answer {
-        QueryAnswer::Bounds { lower, upper, .. } => {
-            let below = BoundSide::Lower;
-            let above = BoundSide::Upper;
-            Ok(Details {
-                reached,
-                lower: side_details(alloc, settings, problem, query, below, lower, lines)?,
-                upper: side_details(alloc, settings, problem, query, above, upper, lines)?,
-            })
-        }
-        QueryAnswer::Impossible(_) | QueryAnswer::Open(_) => Ok(Details {
+    let reached = reached_of(alloc, trials.problem(), query, answer, model)?;
+    let QueryAnswer::Bounds { lower, upper, .. } = answer else {
+        return Ok(Details {
             reached,
-            lower: SideDetails::none(),
-            upper: SideDetails::none(),
-        }),
-    }
+            ..Details::none()
+        });
+    };
+    let below = BoundSide::Lower;
+    let above = BoundSide::Upper;
+    Ok(Details {
+        reached,
+        lower: side_details(alloc, settings, trials, query, below, lower, lines, watch)?,
+        upper: side_details(alloc, settings, trials, query, above, upper, lines, watch)?,
+    })
 }

@@ -111,15 +111,8 @@ fn part_with_piece<W: Company>(
 {
     let part = judged_part(alloc, settings, trials, query, pending)?;
     let answer = &part.answer;
-    let told = details_of(
-        alloc,
-        settings,
-        trials.problem(),
-        query,
-        answer,
-        model,
-        lines,
-    )?;
+    let watch = &mut *timed.watch;
+    let told = details_of(alloc, settings, trials, query, answer, model, lines, watch)?;
     let text = part_piece(alloc, settings, trials.problem(), query, &part, &told)?;
     timed.watch.clear();
     Ok(((part, told), text))

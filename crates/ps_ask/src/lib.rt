@@ -12,6 +12,7 @@ mod fronts;
 mod judged;
 mod late;
 mod laws;
+mod lean;
 mod notes;
 mod pieces;
 mod range;
