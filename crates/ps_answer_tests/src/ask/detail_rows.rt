@@ -11,12 +11,12 @@ query P(wet);
 end;
 ";
 
-// c is at least a + (a -> c) - 1 in each world, and b stands for itself. The query of !a turns the
-// interval round.
+// c is at least (a & c) - 4/5 a and 4/5 a together in each world, and a at least 1/10; b stands for
+// itself. The query of !a turns the interval round.
 const ENDS: &[u8] = b"psat 1;
 P(a) in [0.1, 0.3];
 P(b) <= 0.5;
-P(a -> c) = 1;
+P(c given a) >= 0.8;
 query P(c);
 query P(!a);
 end;
@@ -33,10 +33,10 @@ some bound rests on each sentence
 
 const ENDS_WHY: &str = "consistent: some distribution meets all sentences
 P(c)
-  between 1/10 and 1 (0.100 to 1.000)
-  lower bound 1/10 rests on line 2: P(a) in [1/10, 3/10] \
-    (its lower end; 1/100 more there raises the bound by at least 1/100),
-    and line 4: P(a -> c) = 1 (1/100 more there raises the bound by at least 1/100)
+  between 2/25 and 1 (0.080 to 1.000)
+  lower bound 2/25 rests on line 4: P(c given a) >= 4/5,
+    and line 2: P(a) in [1/10, 3/10] \
+    (its lower end; 1/100 more there raises the bound by at least 1/125)
   upper bound 1 rests on no sentence
 P(!a)
   between 7/10 and 9/10 (0.700 to 0.900)
@@ -62,8 +62,30 @@ const WET_WHY_OBJECT: &str = concat!(
     "\"warnings\":[],\"status\":0}\n",
 );
 
+// The rules of d and f bear nothing of c, whatever a proof of its bound says of them.
+const RULES: &[u8] = b"psat 1;
+P(a) >= 0.2;
+P(a -> c) = 1;
+P(d -> e) = 1;
+P(f -> g) = 1;
+query P(c);
+end;
+";
+
+const RULES_WHY: &str = "consistent: some distribution meets all sentences
+P(c)
+  between 1/5 and 1 (0.200 to 1.000)
+  lower bound 1/5 rests on line 2: P(a) >= 1/5 \
+    (1/100 more there raises the bound by at least 1/100),
+    and line 3: P(a -> c) = 1 (1/100 more there raises the bound by at least 1/100)
+  upper bound 1 rests on no sentence
+no bound rests on these sentences:
+  line 4: P(d -> e) = 1
+  line 5: P(f -> g) = 1
+";
+
 /// What is shown where the sentences are asked for on which each bound rests.
-pub const WHY: [Row; 4] = [
+pub const WHY: [Row; 5] = [
     Row {
         text: WET,
         style: Style::Words,
@@ -75,6 +97,13 @@ pub const WHY: [Row; 4] = [
         text: ENDS,
         style: Style::Words,
         shown: ENDS_WHY,
+        noted: "",
+        status: Status::Done,
+    },
+    Row {
+        text: RULES,
+        style: Style::Words,
+        shown: RULES_WHY,
         noted: "",
         status: Status::Done,
     },
@@ -108,14 +137,14 @@ P(f & (g | h | i | j)) = 0;
 P(g & (h | i | j)) = 0;
 P(h & (i | j)) = 0;
 P(i & j) = 0;
-query P(a | j);
+query P(j);
 end;
 ";
 
 const TEN_SHOWN: &str = "consistent: some distribution meets all sentences
-P(a | j)
-  one value: 1/5 (0.200 to 0.200)
-  lower bound 1/5 is reached by 2/11: j;
+P(j)
+  one value: 2/11 (0.181 to 0.182)
+  lower bound 2/11 is reached by 2/11: j;
     9/55: i;
     8/55: h;
     7/55: g;
@@ -124,7 +153,7 @@ P(a | j)
     4/55: d;
     3/55: c;
     and 2 more worlds
-  upper bound 1/5 is reached by 2/11: j;
+  upper bound 2/11 is reached by 2/11: j;
     9/55: i;
     8/55: h;
     7/55: g;
