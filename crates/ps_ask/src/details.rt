@@ -19,6 +19,7 @@ use ps_support::{BoundSide, Example, Support, example_of, support_of};
 use std::alloc::Global;
 
 // The sentences on which a bound rests, by a dual without certainties that it doesn't need.
+#[tactic(auto, using(crate::proofs::DetailLaws::shown_by, crate::proofs::DetailLaws::found_by))]
 fn support_by<W: Watch>(
     alloc: Global,
     trials: &Trials<'_>,
@@ -77,6 +78,7 @@ fn support_in<W: Watch>(
 }
 
 // A distribution that reaches the bound of a side, where one is asked for and it is one.
+#[tactic(auto, using(crate::proofs::DetailLaws::example_total, crate::proofs::DetailLaws::example_weights, crate::proofs::DetailLaws::example_is))]
 fn example_in(
     alloc: Global,
     settings: Settings,
@@ -124,6 +126,7 @@ fn side_details<W: Watch>(
 /// What is told of a query beneath the answer to it: what is reached of it where it is open, and of
 /// each bound, where that is asked for, the sentences on which it rests and a distribution that
 /// reaches it.
+#[tactic(auto, using(crate::proofs::DetailLaws::proved_lower, crate::proofs::DetailLaws::proved_upper))]
 pub(crate) fn details_of<W: Watch>(
     alloc: Global,
     settings: Settings,

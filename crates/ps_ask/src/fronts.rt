@@ -90,7 +90,7 @@ fn show_verdict<O: Sink, W: Company>(
 
 // The part of a query of the problem of trials, of which this is known, with what is told of it,
 // beside a distribution, and its piece.
-#[tactic(auto, using(crate::proofs::ReachedLaws::right_shown))]
+#[tactic(auto, using(crate::proofs::ReachedLaws::right_shown, crate::proofs::DetailLaws::proved_for))]
 fn part_with_piece<W: Company>(
     alloc: Global,
     settings: Settings,
