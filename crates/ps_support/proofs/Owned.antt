@@ -4,7 +4,7 @@ use Rattle.std.specs.Prelude.{◌⊎◌, is_some, slice_get}
 use Rattle.std.specs.List.{AllZip, Contains}
 use Rattle.ps_problem.specs.declared.sentence.Sentence.{Sentence}
 use Rattle.ps_problem.specs.declared.sentence.Sentence.TheVariants.{Plain, Linear}
-use Rattle.ps_problem.specs.Problems.{BoundIn, LinearIn, bounds_in, bounds_of_sentence}
+use Rattle.ps_problem.specs.Problems.{Parts, AreParts, BoundIn, LinearIn, bounds_in, bounds_of_sentence}
 use Rattle.ps_support.specs.declared.places.BoundPlace.{BoundPlace}
 use Rattle.ps_support.specs.Places.{places_in, places_of}
 use Rattle.ps_support.specs.Supports.{bounds_at}
@@ -86,3 +86,7 @@ sentences_few (s ∷ ss) = by (count s)
     by : (length (bounds_of_sentence s) ≡ 1) ⊎ (length (bounds_of_sentence s) ≡ 2) → suc (length ss) ≤ length (bounds_of_sentence s ++ bounds_in ss)
     by (inl e) = omega (arith, sum, e, sentences_few ss)
     by (inr e) = omega (arith, sum, e, sentences_few ss)
+
+-- so they are no more than a problem may have
+pub sentences_within : (p : Parts) → AreParts p → length p.sentences ≤ 100
+sentences_within p are = let few = are.few_bounds in omega (arith, few, sentences_few p.sentences)

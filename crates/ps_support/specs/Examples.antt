@@ -1,6 +1,7 @@
 -- The worlds of a distribution, by the atoms that are true in them.
-use Rattle.std.specs.Prelude.{ℕ, suc, ◌<◌, ◌≤◌, ℤ, pos, ◌<ℤ◌, ◌≤ℤ◌, unsigned_abs, Bool, true, false, List, [], ◌∷◌, length, All}
-use Rattle.std.specs.Prelude.{slice_index_or}
+use Rattle.std.specs.Prelude.{ℕ, suc, ℤ, pos, ◌<ℤ◌, unsigned_abs, Bool, true, false, List, [], ◌∷◌, All}
+use Rattle.std.specs.List.Sorted.{IsSortedByKey}
+use Rattle.std.specs.Ordering.{int_cmp}
 use Rattle.ps_meaning.specs.Formula.{World}
 use Rattle.ps_meaning.specs.Rational.{fraction}
 use Rattle.ps_meaning.specs.Wide.{Fits}
@@ -30,6 +31,6 @@ HasTotal m = pos 0 <ℤ m.total
 abbrev pub AreWeights : Model → Type 0
 AreWeights m = All (λ w. Fits w.weight) m.worlds
 
--- no world stands behind one of less weight
-pub record FallByWeight (ws : List Likely) : Type 0 where
-  pub falls : (i j : ℕ) (d : Likely) → i ≤ j → j < length ws → (slice_index_or ws j d).weight ≤ℤ (slice_index_or ws i d).weight
+-- worlds are sorted by weight, the greatest first
+abbrev pub FallByWeight : List Likely → Type 0
+FallByWeight ws = IsSortedByKey (λ w. w.weight) (λ a b. int_cmp b a) ws

@@ -1,7 +1,9 @@
 -- The sentences on which a bound rests.
-use Rattle.std.specs.Prelude.{◌≡◌, ◌<◌, ◌≤◌, ◌-◌, ◌==◌, ◌&&◌, ℕ, zero, suc, ℤ, pos, negsuc, ◌≤ℤ◌, unsigned_abs, Bool, true, false}
-use Rattle.std.specs.Prelude.{not, is_none, is_some, if◌then◌else◌, List, [], ◌∷◌, ◌++◌, length, map, get_or, slice_get, slice_index_or}
+use Rattle.std.specs.Prelude.{◌-◌, ◌&&◌, ℕ, zero, suc, ℤ, pos, negsuc, ◌≤ℤ◌, unsigned_abs, Bool, true, false, not, is_none, is_some}
+use Rattle.std.specs.Prelude.{if◌then◌else◌, List, [], ◌++◌, length, map, get_or, slice_get}
 use Rattle.std.specs.Prelude.{Option, Some, None, option_to_list, All}
+use Rattle.std.specs.List.Sorted.{IsSortedByKey}
+use Rattle.std.specs.Ordering.{nat_cmp}
 use Rattle.ps_meaning.specs.Formula.{Formula}
 use Rattle.ps_meaning.specs.Distribution.{Entry, weight, IsDistribution}
 use Rattle.ps_meaning.specs.declared.side.Side.{Side}
@@ -121,6 +123,6 @@ supports_in p side q d lines = supports_to p side q d lines (length (bounds_in p
 abbrev pub numbers_of : List Supporting → List ℕ
 numbers_of ss = map (λ s. s.sentence) ss
 
--- none stands behind one of less weight
-pub record FallByWeight (ss : List Supporting) : Type 0 where
-  pub falls : (i j : ℕ) (d : Supporting) → i ≤ j → j < length ss → (slice_index_or ss j d).weight ≤ (slice_index_or ss i d).weight
+-- they are sorted by weight, the greatest first
+abbrev pub FallByWeight : List Supporting → Type 0
+FallByWeight ss = IsSortedByKey (λ s. s.weight) (λ a b. nat_cmp b a) ss

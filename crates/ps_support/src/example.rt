@@ -43,6 +43,7 @@ fn push_true(atoms: &mut List<usize>, atom: usize, is_true: bool) -> Result<(), 
 }
 
 // The numbers of the atoms that are true in a world.
+#[tactic(auto, using(crate::proofs::Loops::atoms_next, crate::proofs::Loops::atoms_all))]
 fn true_atoms(alloc: Global, world: &World) -> Result<List<usize>, NoMemory>
     ensures { IfOk result (λ atoms. atoms ≡ true_from 0 world.now) }
 {

@@ -48,6 +48,7 @@ fn push_places(places: &mut List<BoundPlace>, sentence: u32, bounds: u32) -> Res
 }
 
 /// Where each bound of sentences stands, in order.
+#[tactic(auto, using(crate::proofs::Loops::places_next, crate::proofs::Loops::places_all))]
 pub(crate) fn bound_places(
     alloc: Global,
     sentences: &[Sentence],

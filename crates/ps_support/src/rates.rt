@@ -1,5 +1,5 @@
 //! How fast a bound moves with a number of a sentence.
-ghost use Rattle.std.specs.Prelude.{◌≡◌, ◌≤◌, ◌≤ℤ◌, ◌*ℤ◌, pos, unsigned_abs};
+ghost use Rattle.std.specs.Prelude.{◌≡◌, ◌≤◌, ◌*◌, ◌≤ℤ◌, pos, unsigned_abs};
 ghost use Rattle.ps_meaning.specs.declared.limits.TheConstants.{PRINTED_LIMIT};
 ghost use Rattle.ps_problem.specs.declared.limits.TheConstants.{GREATEST_SCALE};
 ghost use Rattle.ps_claims.specs.Certificates.{IsMultiplier};

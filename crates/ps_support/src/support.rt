@@ -1,5 +1,5 @@
 //! On which sentences a bound rests.
-ghost use Rattle.std.specs.Prelude.{◌≡◌, ◌<◌, ◌≤ℤ◌, IfOk, length, pos, slice_get};
+ghost use Rattle.std.specs.Prelude.{◌≡◌, ◌<◌, ◌≤ℤ◌, ◌++◌, IfOk, OnOk, length, option_to_list, pos, slice_get};
 ghost use Rattle.std.specs.List.Sorted.{IsPermutation};
 ghost use Rattle.ps_problem.specs.Problems.{HasNodes, bounds_in};
 ghost use Rattle.ps_claims.specs.Certificates.{IsSmallDual};
@@ -50,6 +50,8 @@ fn has_condition(problem: &Problem, i: usize) -> bool
     requires { i < length (bounds_in problem.now.sentences) }
     ensures { result ≡ has_condition (slice_get (bounds_in problem.now.sentences) i) }
 {
+    // Called for its clauses: there are few bounds.
+    let _few = problem.bounds();
     match problem.bound(i as u32 + 1) {
         Some(BoundAt::Plain(bound)) => bound.given.is_some(),
         Some(BoundAt::Linear { .. }) | None => false,
@@ -65,6 +67,7 @@ fn line_in(lines: &[u32], sentence: u32) -> u32
 }
 
 // The bound at a place, where its multiplier isn't 0.
+#[tactic(auto, using(crate::proofs::Found::is_support, crate::proofs::Found::is_none, crate::proofs::Found::place_inside, crate::proofs::Found::row_inside))]
 fn supporting_at(
     problem: &Problem,
     side: BoundSide,
@@ -101,7 +104,33 @@ fn supporting_at(
     })
 }
 
+// Notes the bound at a place, where its multiplier isn't 0.
+fn note_supporting(
+    found: &mut List<Supporting>,
+    problem: &Problem,
+    side: BoundSide,
+    query: Query,
+    dual: &Dual,
+    lines: &[u32],
+    places: &[BoundPlace],
+    i: usize,
+) -> Result<(), NoMemory>
+    requires places { places.now ≡ places_in 1 problem.now.sentences }
+    requires inside { i < length (bounds_in problem.now.sentences) }
+    requires rows { length dual.now.rows ≡ length (bounds_in problem.now.sentences) }
+    requires small { IsSmallDual dual.now }
+    requires top { pos 1 ≤ℤ dual.now.top }
+    ensures { OnOk result (found.new
+        ≡ found.old ++ option_to_list (support_at problem.now side query dual.now lines.now i)) }
+{
+    match supporting_at(problem, side, query, dual, lines, places, i) {
+        Some(one) => found.push(one),
+        None => Ok(()),
+    }
+}
+
 // The bounds whose multipliers aren't 0, in the order of the problem.
+#[tactic(auto, using(crate::proofs::Found::none_found, crate::proofs::Found::next_found, crate::proofs::Found::all_found, crate::proofs::Found::place_inside, crate::proofs::Owned::sentences_within))]
 fn all_supporting(
     alloc: Global,
     problem: &Problem,
@@ -109,25 +138,24 @@ fn all_supporting(
     query: Query,
     dual: &Dual,
     lines: &[u32],
-) -> Result<Vec<Supporting>, NoMemory>
+) -> Result<List<Supporting>, NoMemory>
     requires rows { length dual.now.rows ≡ length (bounds_in problem.now.sentences) }
     requires small { IsSmallDual dual.now }
     requires top { pos 1 ≤ℤ dual.now.top }
-    ensures { IfOk result (λ v. v.items ≡ supports_in problem.now side query dual.now lines.now) }
+    ensures { IfOk result (λ ss. ss ≡ supports_in problem.now side query dual.now lines.now) }
 {
     let places = bound_places(alloc, problem.sentences().as_slice())?;
     let places = places.as_slice();
-    let mut found = Vec::new(alloc);
+    let mut found = List::new(alloc);
     for i in 0..places.len() {
-        if let Some(one) = supporting_at(problem, side, query, dual, lines, places, i) {
-            found.push(one)?;
-        }
+        note_supporting(&mut found, problem, side, query, dual, lines, places, i)?;
     }
     Ok(found)
 }
 
 /// The sentences on which a bound of a query rests, by the dual that shows it: those with a bound
 /// whose multiplier isn't 0, the one of the greatest weight first, each with its line.
+#[tactic(auto, using(crate::proofs::Resting::rests, crate::proofs::Resting::rows_as_bounds))]
 pub fn support_of(
     alloc: Global,
     problem: &Problem,
@@ -152,7 +180,9 @@ pub fn support_of(
         IsPermutation (supports_in problem.now side query dual.now lines.now) s.sentences) }
     ensures order { IfOk result (λ s. FallByWeight s.sentences) }
 {
-    let mut sentences = all_supporting(alloc, problem, side, query, dual, lines)?;
+    // Called for its clauses: the problem is in order.
+    let _sound = problem.rows();
+    let mut sentences = all_supporting(alloc, problem, side, query, dual, lines)?.into_vec();
     sentences.sort_by_key(|one| Reverse(one.weight))?;
     Ok(Support {
         value: *value,
