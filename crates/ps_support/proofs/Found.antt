@@ -28,6 +28,9 @@ place_inside ss places i e lt = subst (λ (n : ℕ). i < n) (sym (ap length e �
 pub bound_inside : (ss : List Sentence) (places : List BoundPlace) (i : ℕ) → places ≡ places_in 1 ss → i < length places → i < length (bounds_in ss)
 bound_inside ss places i e lt = subst (λ (n : ℕ). i < n) (ap length e ∙ places-long ss) lt
 
+pub past_bounds : (ss : List Sentence) (places : List BoundPlace) (i : ℕ) → places ≡ places_in 1 ss → length places ≤ i → length (bounds_in ss) ≤ i
+past_bounds ss places i e past = subst (λ (n : ℕ). n ≤ i) (ap length e ∙ places-long ss) past
+
 pub row_inside : (ss : List Sentence) (rows : List Row) (i : ℕ) → rows ≡ rows_in ss → i < length (bounds_in ss) → i < length rows
 row_inside ss rows i e lt = subst (λ (n : ℕ). i < n) (sym (ap length e ∙ length-map (bounds_in ss) row_at)) lt
 
@@ -64,17 +67,32 @@ module _ (p : Parts) (side : BoundSide) (q : stored.Query) (d : Dual) (lines : L
   no-support None b y e = refl
   no-support (Some place) b y e = rw e refl
 
+  at-any : {X : Type 0} (xs : List X) (i : ℕ) (a b : X) → i < length xs → get_or xs i a ≡ get_or xs i b
+  at-any [] i a b lt = absurd (omega (arith, lt))
+  at-any (x ∷ xs) zero a b lt = refl
+  at-any (x ∷ xs) (suc i) a b lt = at-any xs i a b (omega (arith, lt))
+
   -- of a multiplier that is 0 nothing is told
   pub is_none : (i : ℕ) (y : ℤ) → y ≡ get_or d.rows i y → i < length d.rows → y ≡ pos 0 → support_at p side q d lines i ≡ None
   unfolding support_at
   is_none i y is lt e =
       no-support (slice_get (places_in 1 p.sentences) i) (slice_get (bounds_in p.sentences) i) (get_or d.rows i (pos 0), d.top)
       (same-of (get_or d.rows i (pos 0)) (sym (at-any d.rows i y (pos 0) lt) ∙ sym is ∙ e))
-    where
-      at-any : (xs : List ℤ) (i : ℕ) (a b : ℤ) → i < length xs → get_or xs i a ≡ get_or xs i b
-      at-any [] i a b lt = absurd (omega (arith, lt))
-      at-any (x ∷ xs) zero a b lt = refl
-      at-any (x ∷ xs) (suc i) a b lt = at-any xs i a b (omega (arith, lt))
+
+  by-place : (o : Option BoundPlace) (b : Option BoundIn) (place : BoundPlace) (y : ℤ × ℤ) → o ≡ Some place → is_other y.0 ≡ true
+      → support_by side q b o lines y ≡ Some (supporting side q b place (line_in lines place.sentence) y)
+  by-place o b place y e f = rw (e, f) refl
+
+  -- what is told of another multiplier
+  pub is_support : (i : ℕ) (places : List BoundPlace) (place : BoundPlace) (y : ℤ) → places ≡ places_in 1 p.sentences → i < length places → place ≡ get_or places i place
+      → i < length d.rows → y ≡ get_or d.rows i y → (y ≡ pos 0 → ⊥)
+      → support_at p side q d lines i ≡ Some (supporting side q (slice_get (bounds_in p.sentences) i) place (line_in lines place.sentence) (y, d.top))
+  unfolding support_at
+  is_support i places place y e inside is lt same other =
+      let there : slice_get (places_in 1 p.sentences) i ≡ Some place = subst (λ (ps : List BoundPlace). slice_get ps i ≡ Some place) e (got places i place inside is) in
+      let value : y ≡ get_or d.rows i (pos 0) = same ∙ at-any d.rows i y (pos 0) lt in
+      ap (λ (x : ℤ). support_by side q (slice_get (bounds_in p.sentences) i) (slice_get (places_in 1 p.sentences) i) lines (x, d.top)) (sym value)
+      ∙ by-place (slice_get (places_in 1 p.sentences) i) (slice_get (bounds_in p.sentences) i) place (y, d.top) there (other-of y other)
 
 -- ---- all bounds
 -- those of the first bounds are found

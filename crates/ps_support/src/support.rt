@@ -130,7 +130,7 @@ fn note_supporting(
 }
 
 // The bounds whose multipliers aren't 0, in the order of the problem.
-#[tactic(auto, using(crate::proofs::Found::none_found, crate::proofs::Found::next_found, crate::proofs::Found::all_found, crate::proofs::Found::place_inside, crate::proofs::Owned::sentences_within))]
+#[tactic(auto, using(crate::proofs::Found::none_found, crate::proofs::Found::next_found, crate::proofs::Found::all_found, crate::proofs::Found::bound_inside, crate::proofs::Found::past_bounds, crate::proofs::Owned::sentences_within))]
 fn all_supporting(
     alloc: Global,
     problem: &Problem,
@@ -144,6 +144,8 @@ fn all_supporting(
     requires top { pos 1 ≤ℤ dual.now.top }
     ensures { IfOk result (λ ss. ss ≡ supports_in problem.now side query dual.now lines.now) }
 {
+    // Called for its clauses: the problem is in order.
+    let _sound = problem.rows();
     let places = bound_places(alloc, problem.sentences().as_slice())?;
     let places = places.as_slice();
     let mut found = List::new(alloc);
