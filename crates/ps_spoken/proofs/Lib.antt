@@ -4,3 +4,4 @@ pub mod Sides
 pub mod Values
 pub mod ExactLines
 pub mod Listed
+pub mod Beneath

@@ -68,14 +68,14 @@ status_text (Bound x m d) (Open c) = codes "bounds"
 status_text (Open c) upper = codes "bounds"
 
 -- both sides of a query
-unfoldable pub sides_members : ℕ → Parts → SideAnswer → SideAnswer → Details → List ℕ
-sides_members digits p lower upper t =
+unfoldable pub both_sides : ℕ → Parts → SideAnswer → SideAnswer → Details → List ℕ
+both_sides digits p lower upper t =
     lower_object digits p lower t ++ (codes ",\"upper\":" ++ (upper_object digits p upper t ++ codes "}"))
 
 -- the members of a query with bounds, from its status on
-abbrev pub bounds_members : ℕ → Parts → SideAnswer → SideAnswer → Details → List ℕ
-bounds_members digits p lower upper t = status_text lower upper
-    ++ (codes "\",\"why\":null,\"lower\":" ++ sides_members digits p lower upper t)
+abbrev pub two_bounds : ℕ → Parts → SideAnswer → SideAnswer → Details → List ℕ
+two_bounds digits p lower upper t = status_text lower upper
+    ++ (codes "\",\"why\":null,\"lower\":" ++ both_sides digits p lower upper t)
 
 -- both sides of a query that is open
 unfoldable pub open_sides : ℕ → Cause → Option Reached → List ℕ

@@ -28,7 +28,7 @@ example_told digits p side (Some e) = example_text digits p side e
 example_told digits p side None = []
 
 -- what is told of a bound
-abbrev pub beneath_side : ℕ → Parts → BoundSide → SideDetails → List ℕ
+unfoldable pub beneath_side : ℕ → Parts → BoundSide → SideDetails → List ℕ
 beneath_side digits p side t = support_told p side t.support ++ example_told digits p side t.example
 
 -- what is told of both bounds of a query

@@ -32,8 +32,11 @@ unfoldable pub rate_member : Rational → List ℕ
 rate_member x = codes ",\"multiplier\":\"" ++ (fraction_text x ++ codes "\"")
 
 -- how far it moves where that rises by a hundredth
+unfoldable pub moved_by : Rational → List ℕ
+moved_by x = codes ",\"hundredth\":\"" ++ (fraction_text x ++ codes "\"}")
+
 abbrev pub moved_member : Option Rational → List ℕ
-moved_member (Some x) = codes ",\"hundredth\":\"" ++ (fraction_text x ++ codes "\"}")
+moved_member (Some x) = moved_by x
 moved_member None = codes ",\"hundredth\":null}"
 
 -- a sentence at a place of a list
@@ -45,8 +48,11 @@ abbrev pub support_items : Parts → List Supporting → List ℕ
 support_items p ss = texts_of (supporting_item p) ss
 
 -- the member that has them, where they are told
+unfoldable pub rests_on : Parts → List Supporting → List ℕ
+rests_on p ss = codes ",\"rests_on\":[" ++ (support_items p ss ++ codes "]")
+
 abbrev pub support_members : Parts → Option Support → List ℕ
-support_members p (Some s) = codes ",\"rests_on\":[" ++ (support_items p s.sentences ++ codes "]")
+support_members p (Some s) = rests_on p s.sentences
 support_members p None = []
 
 -- ---- a distribution that reaches it
@@ -66,11 +72,14 @@ abbrev pub likely_items : Parts → List Likely → List ℕ
 likely_items p ws = texts_of (likely_item p) ws
 
 -- the member that has them, where they are told
+unfoldable pub example_member : Parts → List Likely → List ℕ
+example_member p ws = codes ",\"example\":[" ++ (likely_items p ws ++ codes "]")
+
 abbrev pub example_members : Parts → Option Example → List ℕ
-example_members p (Some e) = codes ",\"example\":[" ++ (likely_items p e.worlds ++ codes "]")
+example_members p (Some e) = example_member p e.worlds
 example_members p None = []
 
 -- ---- both
 -- what is told of a bound
-abbrev pub beneath_members : Parts → SideDetails → List ℕ
+unfoldable pub beneath_members : Parts → SideDetails → List ℕ
 beneath_members p t = support_members p t.support ++ example_members p t.example

@@ -1,6 +1,6 @@
 -- The sentences on which a bound rests, for people.
-use Rattle.std.specs.Prelude.{ℕ, pos, ◌<ℤ◌, ◌==◌, if◌then◌else◌, Bool, true, false, List, [], ◌∷◌, ◌++◌, codes, Option, Some, None, length}
-use Rattle.std.specs.Prelude.{int_lt}
+use Rattle.std.specs.Prelude.{ℕ, pos, ◌==◌, int_lt, if◌then◌else◌, Bool, true, false, List, [], ◌++◌, codes, length}
+use Rattle.std.specs.Prelude.{Option, Some, None}
 use Rattle.std.specs.Fmt.{signed_decimal}
 use Rattle.ps_meaning.specs.Rational.{Rational, neg}
 use Rattle.ps_problem.specs.Problems.{Parts}
@@ -20,13 +20,16 @@ bound_name Lower = codes "  lower bound "
 bound_name Upper = codes "  upper bound "
 
 -- the same, and its value
-abbrev pub name_text : BoundSide → Rational → List ℕ
+unfoldable pub name_text : BoundSide → Rational → List ℕ
 name_text side value = bound_name side ++ fraction_text value
 
 -- a bound on how far a bound moves
-abbrev pub moved_text : Bool → Rational → List ℕ
-moved_text true x = codes "at least " ++ fraction_text x
-moved_text false x = codes "at most " ++ fraction_text x
+abbrev pub moved_words : Bool → List ℕ
+moved_words true = codes "at least "
+moved_words false = codes "at most "
+
+unfoldable pub moved_text : Bool → Rational → List ℕ
+moved_text least x = moved_words least ++ fraction_text x
 
 -- a lower bound moves up by at least what its dual says, and down by at most that; an upper one the other way round
 abbrev pub up_is_least : BoundSide → Bool
@@ -37,11 +40,15 @@ abbrev pub down_is_least : BoundSide → Bool
 down_is_least Lower = false
 down_is_least Upper = true
 
--- how far it moves where a number of a sentence rises by a hundredth
-unfoldable pub turned_text : BoundSide → Rational → List ℕ
-turned_text side x =
-    if int_lt x.over (pos 0) then codes "1/100 more there lowers the bound by " ++ moved_text (down_is_least side) (neg x)
-    else codes "1/100 more there raises the bound by " ++ moved_text (up_is_least side) x
+-- how far it moves where a number of a sentence rises by a hundredth: down, or up
+unfoldable pub lowered_text : BoundSide → Rational → List ℕ
+lowered_text side x = codes "1/100 more there lowers the bound by " ++ moved_text (down_is_least side) (neg x)
+
+unfoldable pub raised_text : BoundSide → Rational → List ℕ
+raised_text side x = codes "1/100 more there raises the bound by " ++ moved_text (up_is_least side) x
+
+abbrev pub turned_text : BoundSide → Rational → List ℕ
+turned_text side x = if int_lt x.over (pos 0) then lowered_text side x else raised_text side x
 
 -- the number of an interval that it rests on
 abbrev pub end_words : End → List ℕ
@@ -49,12 +56,30 @@ end_words end.Only = []
 end_words end.Lower = codes "its lower end"
 end_words end.Upper = codes "its upper end"
 
+-- how it moves with the only number of a sentence
+unfoldable pub alone_moved : BoundSide → Rational → List ℕ
+alone_moved side x = codes " (" ++ (turned_text side x ++ codes ")")
+
+abbrev pub alone_text : BoundSide → Option Rational → List ℕ
+alone_text side (Some x) = alone_moved side x
+alone_text side None = []
+
+-- which number of an interval it rests on, and how it moves with that
+unfoldable pub end_moved : BoundSide → End → Rational → List ℕ
+end_moved side e x = codes " (" ++ (end_words e ++ (codes "; " ++ (turned_text side x ++ codes ")")))
+
+unfoldable pub end_named : End → List ℕ
+end_named e = codes " (" ++ (end_words e ++ codes ")")
+
+abbrev pub end_text : BoundSide → End → Option Rational → List ℕ
+end_text side e (Some x) = end_moved side e x
+end_text side e None = end_named e
+
 -- which number of a sentence it rests on, and how it moves with that
 abbrev pub moves_by : BoundSide → End → Option Rational → List ℕ
-moves_by side end.Only None = []
-moves_by side end.Only (Some x) = codes " (" ++ (turned_text side x ++ codes ")")
-moves_by side e None = codes " (" ++ (end_words e ++ codes ")")
-moves_by side e (Some x) = codes " (" ++ (end_words e ++ (codes "; " ++ (turned_text side x ++ codes ")")))
+moves_by side end.Only moved = alone_text side moved
+moves_by side end.Lower moved = end_text side end.Lower moved
+moves_by side end.Upper moved = end_text side end.Upper moved
 
 abbrev pub moves_text : BoundSide → Supporting → List ℕ
 moves_text side s = moves_by side s.end s.hundredth
@@ -72,10 +97,12 @@ supporting_text p side place s = on_before place
 abbrev pub support_items : Parts → BoundSide → List Supporting → List ℕ
 support_items p side ss = texts_of (supporting_text p side) ss
 
+unfoldable pub on_these : Parts → BoundSide → List Supporting → List ℕ
+on_these p side ss = codes " rests on " ++ (support_items p side ss ++ codes "\n")
+
 abbrev pub support_list : Parts → BoundSide → List Supporting → List ℕ
-support_list p side [] = codes " rests on no sentence\n"
-support_list p side (s ∷ ss) = codes " rests on " ++ (support_items p side (s ∷ ss) ++ codes "\n")
+support_list p side ss = if length ss == 0 then codes " rests on no sentence\n" else on_these p side ss
 
 -- the bound, and the sentences on which it rests
-abbrev pub support_text : Parts → BoundSide → Support → List ℕ
+unfoldable pub support_text : Parts → BoundSide → Support → List ℕ
 support_text p side s = name_text side s.value ++ support_list p side s.sentences

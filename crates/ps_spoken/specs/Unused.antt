@@ -1,5 +1,5 @@
 -- The sentences on which no bound rests.
-use Rattle.std.specs.Prelude.{ℕ, pos, List, [], ◌∷◌, ◌++◌, codes, Option, Some, None}
+use Rattle.std.specs.Prelude.{ℕ, pos, ◌==◌, if◌then◌else◌, List, [], ◌∷◌, ◌++◌, codes, length, Option, Some, None}
 use Rattle.std.specs.Fmt.{signed_decimal}
 use Rattle.ps_problem.specs.Problems.{Parts}
 use Rattle.ps_spoken.specs.Sentences.{line_at, sentence_text}
@@ -17,9 +17,11 @@ unused_lines p lines [] = []
 unused_lines p lines (n ∷ ns) = unused_line p lines n ++ unused_lines p lines ns
 
 -- the sentences on which no bound rests
+unfoldable pub unused_list : Parts → List ℕ → List ℕ → List ℕ
+unused_list p lines ns = codes "no bound rests on these sentences:\n" ++ unused_lines p lines ns
+
 abbrev pub unused_text : Parts → List ℕ → List ℕ → List ℕ
-unused_text p lines [] = codes "some bound rests on each sentence\n"
-unused_text p lines (n ∷ ns) = codes "no bound rests on these sentences:\n" ++ unused_lines p lines (n ∷ ns)
+unused_text p lines ns = if length ns == 0 then codes "some bound rests on each sentence\n" else unused_list p lines ns
 
 -- a sentence as an object, at a place of a list
 unfoldable pub unused_item : Parts → List ℕ → ℕ → ℕ → List ℕ
@@ -29,6 +31,9 @@ abbrev pub unused_items : Parts → List ℕ → List ℕ → List ℕ
 unused_items p lines ns = texts_of (unused_item p lines) ns
 
 -- the member that has them, where they are told
+unfoldable pub unused_array : Parts → List ℕ → List ℕ → List ℕ
+unused_array p lines ns = codes ",\"unused\":[" ++ (unused_items p lines ns ++ codes "]")
+
 abbrev pub unused_member : Parts → List ℕ → Option (List ℕ) → List ℕ
-unused_member p lines (Some ns) = codes ",\"unused\":[" ++ (unused_items p lines ns ++ codes "]")
+unused_member p lines (Some ns) = unused_array p lines ns
 unused_member p lines None = []

@@ -1,10 +1,12 @@
 //! What is told beneath the answer to a query.
 ghost use Rattle.std.specs.Prelude.{◌≡◌, ◌<◌, ◌≤◌, None};
 ghost use Rattle.ps_frac.specs.declared.limits.TheConstants.{MOST_DIGITS};
-ghost use Rattle.ps_spoken.specs.Details.{beneath_side, beneath_text, no_details};
-ghost use Rattle.ps_spoken.specs.Numbers.{Puts, Says};
+ghost use Rattle.ps_spoken.specs.Details.{beneath_side, beneath_text, example_told, no_details};
+ghost use Rattle.ps_spoken.specs.Details.{support_told};
+ghost use Rattle.ps_spoken.specs.Numbers.{Puts};
 
 use crate::examples::write_example;
+use crate::numbers::append;
 use crate::reached::Reached;
 use crate::supports::write_support;
 use ps_io::NoMemory;
@@ -58,7 +60,43 @@ impl Details {
     }
 }
 
+// Writes the sentences on which a bound rests, where they are told.
+fn write_support_told(
+    alloc: Global,
+    out: &mut Vec<u8>,
+    problem: &Problem,
+    side: BoundSide,
+    support: &Option<Support>,
+) -> Result<(), NoMemory>
+    ensures { Puts result out.old out.new (support_told problem.now side support.now) }
+{
+    match support {
+        Some(known) => write_support(alloc, out, problem, side, known),
+        None => append(out, b""),
+    }
+}
+
+// Writes a distribution that reaches it, where one is told.
+fn write_example_told(
+    out: &mut Vec<u8>,
+    problem: &Problem,
+    side: BoundSide,
+    example: &Option<Example>,
+    digits: u32,
+) -> Result<(), NoMemory>
+    requires some { 0 < digits }
+    requires few { digits ≤ MOST_DIGITS }
+    ensures { Puts result out.old out.new
+        (example_told digits problem.now side example.now) }
+{
+    match example {
+        Some(known) => write_example(out, problem, side, known, digits),
+        None => append(out, b""),
+    }
+}
+
 // Writes what is told of a bound.
+#[tactic(auto, unfolding(crate::specs::Details::beneath_side))]
 fn write_beneath_side(
     alloc: Global,
     out: &mut Vec<u8>,
@@ -69,16 +107,11 @@ fn write_beneath_side(
 ) -> Result<(), NoMemory>
     requires some { 0 < digits }
     requires few { digits ≤ MOST_DIGITS }
-    ensures { Says result out.old.items out.new.items
+    ensures { Puts result out.old out.new
         (beneath_side digits problem.now side told.now) }
 {
-    if let Some(support) = &told.support {
-        write_support(alloc, out, problem, side, support)?;
-    }
-    if let Some(example) = &told.example {
-        write_example(out, problem, side, example, digits)?;
-    }
-    Ok(())
+    write_support_told(alloc, out, problem, side, &told.support)?;
+    write_example_told(out, problem, side, &told.example, digits)
 }
 
 /// Writes what is told of the bounds of a query, beneath them.

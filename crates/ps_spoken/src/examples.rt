@@ -1,10 +1,11 @@
 //! Distributions that reach bounds, for people.
-ghost use Rattle.std.specs.Prelude.{◌<◌, ◌≤◌};
+ghost use Rattle.std.specs.Prelude.{◌≡◌, ◌<◌, ◌≤◌};
 ghost use Rattle.ps_frac.specs.declared.limits.TheConstants.{MOST_DIGITS};
-ghost use Rattle.ps_spoken.specs.Numbers.{Says};
-ghost use Rattle.ps_spoken.specs.Examples.{atom_names, atom_text, atoms_text, example_text, more_text};
-ghost use Rattle.ps_spoken.specs.Examples.{probability_text, world_before, world_text, worlds_text};
-ghost use Rattle.ps_spoken.specs.Examples.{joined_atom};
+ghost use Rattle.ps_spoken.specs.Numbers.{Puts};
+ghost use Rattle.ps_spoken.specs.Examples.{about_text, and_before, atom_names, atom_text, atoms_text};
+ghost use Rattle.ps_spoken.specs.Examples.{example_text, is_short, joined_atom, more_text, more_words};
+ghost use Rattle.ps_spoken.specs.Examples.{probability_text, some_more, world_before, world_text};
+ghost use Rattle.ps_spoken.specs.Examples.{worlds_text, worlds_word};
 
 use crate::numbers::{append, fraction, low, number};
 use crate::supports::write_name;
@@ -19,23 +20,39 @@ pub const MOST_WORLDS: usize = 8;
 /// A probability whose denominator is greater is shown as a decimal.
 pub const LONG_DENOMINATOR: i128 = 1_000_000;
 
-// Writes a probability: as a fraction where that is short, and else as a decimal.
-#[tactic(auto, unfolding(crate::specs::Examples::probability_text))]
-fn write_probability(out: &mut Vec<u8>, probability: &Fraction, digits: u32) -> Result<(), NoMemory>
+// Whether a fraction is short.
+fn is_short(probability: &Fraction) -> bool
+    ensures { result ≡ is_short probability.now }
+{
+    probability.denominator() <= LONG_DENOMINATOR
+}
+
+// Writes a decimal in place of a fraction that isn't.
+#[tactic(auto, unfolding(crate::specs::Examples::about_text))]
+fn write_about(out: &mut Vec<u8>, probability: &Fraction, digits: u32) -> Result<(), NoMemory>
     requires some { 0 < digits }
     requires few { digits ≤ MOST_DIGITS }
-    ensures { Says result out.old.items out.new.items (probability_text digits probability.now) }
+    ensures { Puts result out.old out.new (about_text digits probability.now) }
 {
-    if probability.denominator() <= LONG_DENOMINATOR {
-        return fraction(out, probability);
-    }
     append(out, b"about ")?;
     low(out, probability, digits)
 }
 
+// Writes a probability: as a fraction where that is short, and else as a decimal.
+fn write_probability(out: &mut Vec<u8>, probability: &Fraction, digits: u32) -> Result<(), NoMemory>
+    requires some { 0 < digits }
+    requires few { digits ≤ MOST_DIGITS }
+    ensures { Puts result out.old out.new (probability_text digits probability.now) }
+{
+    if is_short(probability) {
+        return fraction(out, probability);
+    }
+    write_about(out, probability, digits)
+}
+
 /// Writes the name of an atom; nothing where there is no such atom.
 pub(crate) fn write_atom(out: &mut Vec<u8>, problem: &Problem, atom: usize) -> Result<(), NoMemory>
-    ensures { Says result out.old.items out.new.items (atom_text problem.now atom) }
+    ensures { Puts result out.old out.new (atom_text problem.now atom) }
 {
     if atom >= problem.atoms() as usize {
         return Ok(());
@@ -46,24 +63,33 @@ pub(crate) fn write_atom(out: &mut Vec<u8>, problem: &Problem, atom: usize) -> R
     }
 }
 
+// Writes what stands before an atom of these.
+fn write_and(out: &mut Vec<u8>, place: usize) -> Result<(), NoMemory>
+    ensures { Puts result out.old out.new (and_before place) }
+{
+    if place == 0 {
+        return Ok(());
+    }
+    append(out, b" and ")
+}
+
 // Writes the name of an atom behind others.
+#[tactic(auto, unfolding(crate::specs::Examples::joined_atom))]
 fn write_joined(
     out: &mut Vec<u8>,
     problem: &Problem,
     place: usize,
     atom: usize,
 ) -> Result<(), NoMemory>
-    ensures { Says result out.old.items out.new.items (joined_atom problem.now place atom) }
+    ensures { Puts result out.old out.new (joined_atom problem.now place atom) }
 {
-    if place > 0 {
-        append(out, b" and ")?;
-    }
+    write_and(out, place)?;
     write_atom(out, problem, atom)
 }
 
 // Writes the names of atoms.
 fn write_names(out: &mut Vec<u8>, problem: &Problem, atoms: &[usize]) -> Result<(), NoMemory>
-    ensures { Says result out.old.items out.new.items (atom_names problem.now atoms.now) }
+    ensures { Puts result out.old out.new (atom_names problem.now atoms.now) }
 {
     for place in 0..atoms.len() {
         write_joined(out, problem, place, atoms[place])?;
@@ -73,7 +99,7 @@ fn write_names(out: &mut Vec<u8>, problem: &Problem, atoms: &[usize]) -> Result<
 
 // Writes which atoms are true.
 fn write_atoms(out: &mut Vec<u8>, problem: &Problem, atoms: &[usize]) -> Result<(), NoMemory>
-    ensures { Says result out.old.items out.new.items (atoms_text problem.now atoms.now) }
+    ensures { Puts result out.old out.new (atoms_text problem.now atoms.now) }
 {
     if atoms.is_empty() {
         return append(out, b"nothing of these");
@@ -92,7 +118,7 @@ fn write_world(
 ) -> Result<(), NoMemory>
     requires some { 0 < digits }
     requires few { digits ≤ MOST_DIGITS }
-    ensures { Says result out.old.items out.new.items
+    ensures { Puts result out.old out.new
         (world_text digits problem.now place world.now) }
 {
     write_before(out, place)?;
@@ -103,7 +129,7 @@ fn write_world(
 
 // Writes what stands before a world of these.
 fn write_before(out: &mut Vec<u8>, place: usize) -> Result<(), NoMemory>
-    ensures { Says result out.old.items out.new.items (world_before place) }
+    ensures { Puts result out.old out.new (world_before place) }
 {
     if place == 0 {
         return Ok(());
@@ -120,7 +146,7 @@ fn write_worlds(
 ) -> Result<(), NoMemory>
     requires some { 0 < digits }
     requires few { digits ≤ MOST_DIGITS }
-    ensures { Says result out.old.items out.new.items
+    ensures { Puts result out.old out.new
         (worlds_text digits problem.now worlds.now) }
 {
     for place in 0..worlds.len().min(MOST_WORLDS) {
@@ -129,24 +155,46 @@ fn write_worlds(
     Ok(())
 }
 
-// Writes how many worlds there are beyond those that are shown.
-fn write_more(out: &mut Vec<u8>, worlds: usize) -> Result<(), NoMemory>
-    ensures { Says result out.old.items out.new.items (more_text worlds) }
+// The words for so many more worlds.
+fn worlds_word(worlds: usize) -> &'static [u8]
+    ensures { result.now ≡ worlds_word worlds }
 {
-    let more = worlds.saturating_sub(MOST_WORLDS);
-    if more == 0 {
+    if worlds == 1 {
+        return b" more world";
+    }
+    b" more worlds"
+}
+
+// Writes that there are so many more worlds.
+#[tactic(auto, unfolding(crate::specs::Examples::some_more))]
+fn write_some_more(out: &mut Vec<u8>, worlds: usize) -> Result<(), NoMemory>
+    ensures { Puts result out.old out.new (some_more worlds) }
+{
+    append(out, b";\n    and ")?;
+    number(out, worlds as i128)?;
+    append(out, worlds_word(worlds))
+}
+
+// The same where there are some.
+fn write_more_words(out: &mut Vec<u8>, worlds: usize) -> Result<(), NoMemory>
+    ensures { Puts result out.old out.new (more_words worlds) }
+{
+    if worlds == 0 {
         return Ok(());
     }
-    append(out, b";\n    and ")?;
-    number(out, more as i128)?;
-    if more == 1 {
-        return append(out, b" more world");
-    }
-    append(out, b" more worlds")
+    write_some_more(out, worlds)
+}
+
+// Writes how many worlds there are beyond those that are shown.
+fn write_more(out: &mut Vec<u8>, worlds: usize) -> Result<(), NoMemory>
+    ensures { Puts result out.old out.new (more_text worlds) }
+{
+    write_more_words(out, worlds.saturating_sub(MOST_WORLDS))
 }
 
 /// Writes a distribution that reaches a bound: its most probable worlds, each with its probability
 /// and the atoms that are true in it, and how many there are beyond these.
+#[tactic(auto, unfolding(crate::specs::Examples::example_text))]
 pub(crate) fn write_example(
     out: &mut Vec<u8>,
     problem: &Problem,
@@ -156,7 +204,7 @@ pub(crate) fn write_example(
 ) -> Result<(), NoMemory>
     requires some { 0 < digits }
     requires few { digits ≤ MOST_DIGITS }
-    ensures { Says result out.old.items out.new.items
+    ensures { Puts result out.old out.new
         (example_text digits problem.now side example.now) }
 {
     let worlds = example.worlds.as_slice();

@@ -2,9 +2,9 @@
 ghost use Rattle.std.specs.Prelude.{◌<◌, ◌≤◌};
 ghost use Rattle.ps_spoken.specs.Numbers.{Puts, Says};
 ghost use Rattle.ps_frac.specs.declared.limits.TheConstants.{MOST_DIGITS};
-ghost use Rattle.ps_spoken.specs.Bounds.{bounds_members, end_text, exact_text, lower_object};
+ghost use Rattle.ps_spoken.specs.Bounds.{two_bounds, end_text, exact_text, lower_object};
 ghost use Rattle.ps_spoken.specs.Bounds.{greatest_object, least_object, open_lower, open_members};
-ghost use Rattle.ps_spoken.specs.Bounds.{open_sides, open_upper, sides_members};
+ghost use Rattle.ps_spoken.specs.Bounds.{open_sides, open_upper, both_sides};
 ghost use Rattle.ps_spoken.specs.Bounds.{status_text, stopped_object, upper_object};
 
 use crate::cause::write_cause;
@@ -193,7 +193,7 @@ fn write_status(out: &mut Vec<u8>, lower: &SideAnswer, upper: &SideAnswer) -> Re
 }
 
 // Writes both sides of a query.
-#[tactic(auto, unfolding(crate::specs::Bounds::sides_members))]
+#[tactic(auto, unfolding(crate::specs::Bounds::both_sides))]
 fn write_sides(
     alloc: Global,
     out: &mut Vec<u8>,
@@ -206,7 +206,7 @@ fn write_sides(
     requires some { 0 < digits }
     requires few { digits ≤ MOST_DIGITS }
     ensures { Puts result out.old out.new
-        (sides_members digits problem.now lower.now upper.now told.now) }
+        (both_sides digits problem.now lower.now upper.now told.now) }
 {
     write_lower(alloc, out, problem, lower, told, digits)?;
     append(out, b",\"upper\":")?;
@@ -227,7 +227,7 @@ pub fn write_bounds(
     requires some { 0 < digits }
     requires few { digits ≤ MOST_DIGITS }
     ensures { Puts result out.old out.new
-        (bounds_members digits problem.now lower.now upper.now told.now) }
+        (two_bounds digits problem.now lower.now upper.now told.now) }
 {
     write_status(out, lower, upper)?;
     append(out, b"\",\"why\":null,\"lower\":")?;

@@ -1,8 +1,10 @@
 //! What is told of bounds, as members of their objects.
-ghost use Rattle.ps_spoken.specs.Numbers.{Says};
+ghost use Rattle.std.specs.Prelude.{◌≡◌};
+ghost use Rattle.ps_spoken.specs.Numbers.{Puts};
 ghost use Rattle.ps_spoken.specs.JsonDetails.{atom_item, atom_items, beneath_members, end_member};
-ghost use Rattle.ps_spoken.specs.JsonDetails.{example_members, likely_item, likely_items, moved_member};
-ghost use Rattle.ps_spoken.specs.JsonDetails.{rate_member, support_items, support_members};
+ghost use Rattle.ps_spoken.specs.JsonDetails.{example_member, example_members, likely_item};
+ghost use Rattle.ps_spoken.specs.JsonDetails.{likely_items, moved_by, moved_member, rate_member};
+ghost use Rattle.ps_spoken.specs.JsonDetails.{rests_on, support_items, support_members};
 ghost use Rattle.ps_spoken.specs.JsonDetails.{supporting_item, where_members};
 
 use crate::clash::write_sentence;
@@ -25,7 +27,7 @@ pub(crate) fn write_where(
     sentence: u32,
     line: u32,
 ) -> Result<(), NoMemory>
-    ensures { Says result out.old.items out.new.items
+    ensures { Puts result out.old out.new
         (where_members problem.now sentence line) }
 {
     append(out, b"{\"number\":")?;
@@ -49,15 +51,21 @@ fn end_member(end: End) -> &'static [u8]
 }
 
 // Writes how far a bound moves where that number rises by a hundredth.
+#[tactic(auto, unfolding(crate::specs::JsonDetails::moved_by))]
+fn write_moved_by(out: &mut Vec<u8>, by: &Fraction) -> Result<(), NoMemory>
+    ensures { Puts result out.old out.new (moved_by by.now) }
+{
+    append(out, b",\"hundredth\":\"")?;
+    fraction(out, by)?;
+    append(out, b"\"}")
+}
+
+// The same where that is known.
 fn write_moved(out: &mut Vec<u8>, hundredth: &Option<Fraction>) -> Result<(), NoMemory>
-    ensures { Says result out.old.items out.new.items (moved_member hundredth.now) }
+    ensures { Puts result out.old out.new (moved_member hundredth.now) }
 {
     match hundredth {
-        Some(by) => {
-            append(out, b",\"hundredth\":\"")?;
-            fraction(out, by)?;
-            append(out, b"\"}")
-        }
+        Some(by) => write_moved_by(out, by),
         None => append(out, b",\"hundredth\":null}"),
     }
 }
@@ -65,7 +73,7 @@ fn write_moved(out: &mut Vec<u8>, hundredth: &Option<Fraction>) -> Result<(), No
 // Writes how fast it moves.
 #[tactic(auto, unfolding(crate::specs::JsonDetails::rate_member))]
 fn write_rate(out: &mut Vec<u8>, rate: &Fraction) -> Result<(), NoMemory>
-    ensures { Says result out.old.items out.new.items (rate_member rate.now) }
+    ensures { Puts result out.old out.new (rate_member rate.now) }
 {
     append(out, b",\"multiplier\":\"")?;
     fraction(out, rate)?;
@@ -81,7 +89,7 @@ fn write_supporting(
     place: usize,
     it: &Supporting,
 ) -> Result<(), NoMemory>
-    ensures { Says result out.old.items out.new.items (supporting_item problem.now place it.now) }
+    ensures { Puts result out.old out.new (supporting_item problem.now place it.now) }
 {
     write_comma(out, place)?;
     write_where(alloc, out, problem, it.sentence, it.line)?;
@@ -97,7 +105,7 @@ fn write_all_supporting(
     problem: &Problem,
     all: &[Supporting],
 ) -> Result<(), NoMemory>
-    ensures { Says result out.old.items out.new.items (support_items problem.now all.now) }
+    ensures { Puts result out.old out.new (support_items problem.now all.now) }
 {
     for place in 0..all.len() {
         write_supporting(alloc, out, problem, place, &all[place])?;
@@ -105,21 +113,34 @@ fn write_all_supporting(
     Ok(())
 }
 
-// Writes the member that has them, where they are told.
+// Writes the member that has them.
+#[tactic(auto, unfolding(crate::specs::JsonDetails::rests_on))]
+fn write_rests_on(
+    alloc: Global,
+    out: &mut Vec<u8>,
+    problem: &Problem,
+    all: &[Supporting],
+) -> Result<(), NoMemory>
+    ensures { Puts result out.old out.new (rests_on problem.now all.now) }
+{
+    append(out, b",\"rests_on\":[")?;
+    write_all_supporting(alloc, out, problem, all)?;
+    append(out, b"]")
+}
+
+// The same where they are told.
 fn write_support(
     alloc: Global,
     out: &mut Vec<u8>,
     problem: &Problem,
     support: &Option<Support>,
 ) -> Result<(), NoMemory>
-    ensures { Says result out.old.items out.new.items (support_members problem.now support.now) }
+    ensures { Puts result out.old out.new (support_members problem.now support.now) }
 {
-    let Some(known) = support else {
-        return Ok(());
-    };
-    append(out, b",\"rests_on\":[")?;
-    write_all_supporting(alloc, out, problem, known.sentences.as_slice())?;
-    append(out, b"]")
+    match support {
+        Some(known) => write_rests_on(alloc, out, problem, known.sentences.as_slice()),
+        None => append(out, b""),
+    }
 }
 
 // Writes the name of an atom, and a comma before it but before the first.
@@ -130,7 +151,7 @@ fn write_atom_item(
     place: usize,
     atom: usize,
 ) -> Result<(), NoMemory>
-    ensures { Says result out.old.items out.new.items (atom_item problem.now place atom) }
+    ensures { Puts result out.old out.new (atom_item problem.now place atom) }
 {
     write_comma(out, place)?;
     append(out, b"\"")?;
@@ -140,7 +161,7 @@ fn write_atom_item(
 
 // Writes the names of atoms.
 fn write_atoms(out: &mut Vec<u8>, problem: &Problem, atoms: &[usize]) -> Result<(), NoMemory>
-    ensures { Says result out.old.items out.new.items (atom_items problem.now atoms.now) }
+    ensures { Puts result out.old out.new (atom_items problem.now atoms.now) }
 {
     for place in 0..atoms.len() {
         write_atom_item(out, problem, place, atoms[place])?;
@@ -156,7 +177,7 @@ fn write_likely(
     place: usize,
     world: &Likely,
 ) -> Result<(), NoMemory>
-    ensures { Says result out.old.items out.new.items (likely_item problem.now place world.now) }
+    ensures { Puts result out.old out.new (likely_item problem.now place world.now) }
 {
     write_comma(out, place)?;
     append(out, b"{\"probability\":\"")?;
@@ -168,7 +189,7 @@ fn write_likely(
 
 // Writes the worlds of a distribution.
 fn write_all_likely(out: &mut Vec<u8>, problem: &Problem, worlds: &[Likely]) -> Result<(), NoMemory>
-    ensures { Says result out.old.items out.new.items (likely_items problem.now worlds.now) }
+    ensures { Puts result out.old out.new (likely_items problem.now worlds.now) }
 {
     for place in 0..worlds.len() {
         write_likely(out, problem, place, &worlds[place])?;
@@ -176,30 +197,39 @@ fn write_all_likely(out: &mut Vec<u8>, problem: &Problem, worlds: &[Likely]) -> 
     Ok(())
 }
 
-// Writes the member that has them, where they are told.
+// Writes the member that has them.
+#[tactic(auto, unfolding(crate::specs::JsonDetails::example_member))]
+fn write_worlds(out: &mut Vec<u8>, problem: &Problem, worlds: &[Likely]) -> Result<(), NoMemory>
+    ensures { Puts result out.old out.new (example_member problem.now worlds.now) }
+{
+    append(out, b",\"example\":[")?;
+    write_all_likely(out, problem, worlds)?;
+    append(out, b"]")
+}
+
+// The same where they are told.
 fn write_example(
     out: &mut Vec<u8>,
     problem: &Problem,
     example: &Option<Example>,
 ) -> Result<(), NoMemory>
-    ensures { Says result out.old.items out.new.items (example_members problem.now example.now) }
+    ensures { Puts result out.old out.new (example_members problem.now example.now) }
 {
-    let Some(known) = example else {
-        return Ok(());
-    };
-    append(out, b",\"example\":[")?;
-    write_all_likely(out, problem, known.worlds.as_slice())?;
-    append(out, b"]")
+    match example {
+        Some(known) => write_worlds(out, problem, known.worlds.as_slice()),
+        None => append(out, b""),
+    }
 }
 
 /// Writes what is told of a bound, behind the members of its object.
+#[tactic(auto, unfolding(crate::specs::JsonDetails::beneath_members))]
 pub(crate) fn write_beneath(
     alloc: Global,
     out: &mut Vec<u8>,
     problem: &Problem,
     told: &SideDetails,
 ) -> Result<(), NoMemory>
-    ensures { Says result out.old.items out.new.items (beneath_members problem.now told.now) }
+    ensures { Puts result out.old out.new (beneath_members problem.now told.now) }
 {
     write_support(alloc, out, problem, &told.support)?;
     write_example(out, problem, &told.example)

@@ -3,7 +3,8 @@ ghost use Rattle.std.specs.Prelude.{◌<◌, ◌≤◌};
 ghost use Rattle.ps_problem.specs.Problems.{HasNodes};
 ghost use Rattle.ps_spoken.specs.Numbers.{Puts};
 ghost use Rattle.ps_frac.specs.declared.limits.TheConstants.{MOST_DIGITS};
-ghost use Rattle.ps_spoken.specs.Queries.{answer_members, entry_text, queries_text, query_object};
+ghost use Rattle.ps_spoken.specs.Queries.{answer_members, asked_at, entry_text, queries_text};
+ghost use Rattle.ps_spoken.specs.Queries.{query_object};
 
 use crate::details::Details;
 use crate::json_bounds::{write_bounds, write_open};
@@ -65,6 +66,28 @@ fn write_query(
 }
 
 // Writes the query at a place with the answer to it, and a comma before it but before the first.
+fn write_asked(
+    alloc: Global,
+    out: &mut Vec<u8>,
+    problem: &Problem,
+    place: usize,
+    part: &QueryPart,
+    told: &Details,
+    digits: u32,
+) -> Result<(), NoMemory>
+    requires some { 0 < digits }
+    requires few { digits ≤ MOST_DIGITS }
+    ensures { Puts result out.old out.new
+        (asked_at digits problem.now place part.now told.now) }
+{
+    let Some(query) = problem.queries().get(place) else {
+        return Ok(());
+    };
+    write_comma(out, place)?;
+    write_query(alloc, out, problem, *query, part, told, digits)
+}
+
+// The same with what is told of it, where something is.
 fn write_entry(
     alloc: Global,
     out: &mut Vec<u8>,
@@ -79,13 +102,9 @@ fn write_entry(
     ensures { Puts result out.old out.new
         (entry_text digits problem.now details.now place part.now) }
 {
-    let Some(query) = problem.queries().get(place) else {
-        return Ok(());
-    };
-    write_comma(out, place)?;
     match details.get(place) {
-        Some(told) => write_query(alloc, out, problem, *query, part, told, digits),
-        None => write_query(alloc, out, problem, *query, part, &Details::none(), digits),
+        Some(told) => write_asked(alloc, out, problem, place, part, told, digits),
+        None => write_asked(alloc, out, problem, place, part, &Details::none(), digits),
     }
 }
 
