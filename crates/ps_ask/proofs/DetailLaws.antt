@@ -16,6 +16,7 @@ use Rattle.ps_answer.specs.declared.answer.Dual.{Dual}
 use Rattle.ps_answer.specs.declared.answer.Model.{Model}
 use Rattle.ps_answer.specs.declared.answer.Weighted.{Weighted}
 use Rattle.ps_answer.specs.declared.answer.QueryPart.{QueryPart}
+use Rattle.ps_answer.specs.declared.answer.QueryAnswer.{QueryAnswer}
 use Rattle.ps_answer.specs.declared.answer.QueryAnswer.TheVariants as query
 use Rattle.ps_answer.specs.declared.answer.SideAnswer.{SideAnswer}
 use Rattle.ps_answer.specs.declared.answer.SideAnswer.TheVariants.{Bound}
@@ -27,9 +28,9 @@ use Rattle.ps_guess.specs.Trials.{IsFoundSide}
 use Rattle.ps_support.specs.declared.bound_side.BoundSide.{BoundSide}
 use Rattle.ps_support.specs.declared.example.Example.{Example}
 use Rattle.ps_support.specs.Examples.{AreWeights, HasTotal, likely_of}
-use Rattle.ps_support.specs.Supports.{IsShownBy, kind_of}
+use Rattle.ps_support.specs.Supports.{kind_of}
 use Rattle.ps_ask.specs.declared.settings.Settings.{Settings}
-use Rattle.ps_ask.specs.Details.{IsExample}
+use Rattle.ps_ask.specs.Details.{IsDualFor, IsExample}
 use Rattle.ps_ask.specs.Fronts.{IsLatePart, IsShownPart}
 use Rattle.ps_ask.specs.Known.{IsProvedFor, IsProvedSide}
 
@@ -41,18 +42,33 @@ proved_for s p q part h = by h.judged
     by (inl answered) = record { valid = answered.valid; printed = answered.printed }
     by (inr late) = record { valid = late.valid; printed = late.printed }
 
-pub proved_lower : (p : Parts) (q : Query) (lower upper : SideAnswer) (below above : List Event) → IsProvedFor p q (query.Bounds lower below upper above) → IsProvedSide p Lower q lower
-proved_lower p q lower upper below above h = record { valid = h.valid.0; printed = h.printed.0 }
+both-proved : (p : Parts) (q : Query) (lower upper : SideAnswer) (below above : List Event) → IsProvedFor p q (query.Bounds lower below upper above)
+    → IsProvedSide p Lower q lower × IsProvedSide p Upper q upper
+both-proved p q lower upper below above h = (record { valid = h.valid.0; printed = h.printed.0 }, record { valid = h.valid.1; printed = h.printed.1 })
 
-pub proved_upper : (p : Parts) (q : Query) (lower upper : SideAnswer) (below above : List Event) → IsProvedFor p q (query.Bounds lower below upper above) → IsProvedSide p Upper q upper
-proved_upper p q lower upper below above h = record { valid = h.valid.1; printed = h.printed.1 }
+pub proved_lower : (p : Parts) (q : Query) (a : QueryAnswer) (lower upper : SideAnswer) (below above : List Event) → a ≡ query.Bounds lower below upper above → IsProvedFor p q a
+    → IsProvedSide p Lower q lower
+proved_lower p q a lower upper below above e h = (both-proved p q lower upper below above (subst (IsProvedFor p q) e h)).0
+
+pub proved_upper : (p : Parts) (q : Query) (a : QueryAnswer) (lower upper : SideAnswer) (below above : List Event) → a ≡ query.Bounds lower below upper above → IsProvedFor p q a
+    → IsProvedSide p Upper q upper
+proved_upper p q a lower upper below above e h = (both-proved p q lower upper below above (subst (IsProvedFor p q) e h)).1
 
 -- ---- duals
-pub shown_by : (p : Parts) (side : BoundSide) (q : Query) (value : Rational) (m : Model) (d : Dual) → IsProvedSide p (kind_of side) q (Bound value m d) → IsShownBy p side q value d
-shown_by p side q value m d h = record { head = h.valid.head; refuted = h.valid.refuted }
+of-proved : (p : Parts) (side : BoundSide) (q : Query) (value : Rational) (m : Model) (d : Dual) → IsProvedSide p (kind_of side) q (Bound value m d) → IsDualFor p side q value d
+of-proved p side q value m d h = record { shown = record { head = h.valid.head; refuted = h.valid.refuted }; small = h.printed.1.numbers }
 
-pub found_by : (p : Parts) (side : BoundSide) (q : Query) (value : Rational) (m : Model) (d : Dual) → IsFoundSide p (kind_of side) q (Bound value m d) → IsShownBy p side q value d
-found_by p side q value m d h = record { head = h.0.head; refuted = h.0.refuted }
+of-found : (p : Parts) (side : BoundSide) (q : Query) (value : Rational) (m : Model) (d : Dual) → IsFoundSide p (kind_of side) q (Bound value m d) → IsDualFor p side q value d
+of-found p side q value m d h = record { shown = record { head = h.0.head; refuted = h.0.refuted }; small = h.2.numbers }
+
+pub shown_by : (p : Parts) (side : BoundSide) (q : Query) (value : Rational) (m : Model) (d : Dual) (a : SideAnswer) → a ≡ Bound value m d → IsProvedSide p (kind_of side) q a
+    → IsDualFor p side q value d
+shown_by p side q value m d a e h = of-proved p side q value m d (subst (IsProvedSide p (kind_of side) q) e h)
+
+pub found_by : (p : Parts) (side : BoundSide) (q : Query) (value x : Rational) (m : Model) (d : Dual) (a : SideAnswer) → a ≡ Bound x m d → x ≡ value → IsFoundSide p (kind_of side) q a
+    → IsDualFor p side q value d
+found_by p side q value x m d a e same h =
+    subst (λ (y : Rational). IsDualFor p side q y d) same (of-found p side q x m d (subst (IsFoundSide p (kind_of side) q) e h))
 
 -- ---- examples
 -- no world of a distribution weighs more than all
@@ -66,23 +82,37 @@ each-most (w ∷ ws) h =
     (λ i x lt. (let k = each-most ws later i x lt in (k.0, omega (arith, ints, k.1, first))))
 
 module _ (p : Parts) (kind : ClaimKind) (q : Query) (value : Rational) (m : Model) (d : Dual) (h : IsProvedSide p kind q (Bound value m d)) where
-  pub example_total : HasTotal m
-  example_total =
+  total-of : HasTotal m
+  total-of =
       let most = total-positive (length p.names) (entries m.worlds) h.valid.reached.allowed.model.distribution in
       let same = h.valid.basic.total in
       omega (arith, ints, most, same)
 
-  pub example_weights : AreWeights m
-  example_weights = λ i w lt.
+  weights-of : AreWeights m
+  weights-of = λ i w lt.
       let each = each-most m.worlds h.valid.reached.allowed.model.distribution.weighed i w lt in
       let same = h.valid.basic.total in
       let few = h.printed.0.total in
       omega (arith, ints, each.0, each.1, same, few)
 
-  pub example_is : (e : Example) → e.value ≡ value → IsPermutation (map (likely_of m.total) m.worlds) e.worlds → IsExample p q e
-  example_is e same moved = record {
+  example-of : (e : Example) → e.value ≡ value → IsPermutation (map (likely_of m.total) m.worlds) e.worlds → IsExample p q e
+  example-of e same moved = record {
     model = m;
     reached = rw same h.valid.reached;
     total = h.valid.basic.total;
     worlds = moved;
   }
+
+-- the same of a side that is this bound
+module _ (p : Parts) (kind : ClaimKind) (q : Query) (value : Rational) (m : Model) (d : Dual) (a : SideAnswer) (is : a ≡ Bound value m d) (h : IsProvedSide p kind q a) where
+  so : IsProvedSide p kind q (Bound value m d)
+  so = subst (IsProvedSide p kind q) is h
+
+  pub example_total : HasTotal m
+  example_total = total-of p kind q value m d so
+
+  pub example_weights : AreWeights m
+  example_weights = weights-of p kind q value m d so
+
+  pub example_is : (e : Example) → e.value ≡ value → IsPermutation (map (likely_of m.total) m.worlds) e.worlds → IsExample p q e
+  example_is e same moved = example-of p kind q value m d so e same moved

@@ -16,3 +16,4 @@ pub mod ReadLaws
 pub mod RunLaws
 pub mod Decimals
 pub mod RoundLaws
+pub mod UnusedLaws

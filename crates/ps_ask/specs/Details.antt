@@ -1,33 +1,41 @@
 -- What is told of the queries of a problem, and when it is true.
-use Rattle.std.specs.Prelude.{◌≡◌, ◌&&◌, Bool, true, false, List, map, length, Option, is_some, IfSome}
+use Rattle.std.specs.Prelude.{◌≡◌, ◌&&◌, Bool, true, false, List, map, length, Option, Some, None, is_some, IfSome}
 use Rattle.std.specs.List.{AllZip}
 use Rattle.std.specs.List.Sorted.{IsPermutation}
 use Rattle.ps_meaning.specs.Distribution.{total}
+use Rattle.ps_meaning.specs.Rational.{Rational}
 use Rattle.ps_problem.specs.declared.query.Query.{Query}
 use Rattle.ps_problem.specs.Problems.{Parts, bounds_of}
+use Rattle.ps_answer.specs.declared.answer.Dual.{Dual}
 use Rattle.ps_answer.specs.declared.answer.Model.{Model}
 use Rattle.ps_answer.specs.declared.answer.SideAnswer.{SideAnswer}
 use Rattle.ps_answer.specs.declared.answer.SideAnswer.TheVariants.{Bound, Open}
-use Rattle.ps_claims.specs.Certificates.{entries}
+use Rattle.ps_claims.specs.Certificates.{IsSmallDual, entries}
 use Rattle.ps_claims.specs.Queries.{Reaches}
 use Rattle.ps_claims.specs.Validity.{query_of}
 use Rattle.ps_support.specs.declared.bound_side.BoundSide.{BoundSide}
 use Rattle.ps_support.specs.declared.bound_side.BoundSide.TheVariants.{Lower, Upper}
 use Rattle.ps_support.specs.declared.example.Example.{Example}
-use Rattle.ps_support.specs.declared.support.Support.{Support}
 use Rattle.ps_support.specs.Examples.{likely_of}
-use Rattle.ps_support.specs.Supports.{RestsOn, numbers_of, side_of}
+use Rattle.ps_support.specs.Supports.{IsShownBy, IsSupport}
 use Rattle.ps_spoken.specs.declared.details.Details.{Details}
 use Rattle.ps_spoken.specs.declared.details.SideDetails.{SideDetails}
 use Rattle.ps_ask.specs.declared.settings.Settings.{Settings}
 use Rattle.ps_ask.specs.Known.{IsBoundAt}
 use Rattle.ps_ask.specs.Reached.{IsReachedAsTold}
 
--- the bound holds in every distribution that meets the sentences alone that are told
-abbrev pub IsSupport : Parts → Query → BoundSide → Support → Type 0
-IsSupport p q side s = RestsOn p (query_of p.nodes q) (side_of side) s.value (numbers_of s.sentences)
+-- a dual that shows a bound of a query, with numbers that are small enough to tell of
+pub record IsDualFor (p : Parts) (side : BoundSide) (q : Query) (value : Rational) (d : Dual) : Type 0 where
+  pub shown : IsShownBy p side q value d
+  pub small : IsSmallDual d
 
--- the worlds that are told are those of a distribution that meets all sentences, gives the condition weight and the query the value
+-- the last of two that there is
+abbrev pub last_of : Option Dual → Option Dual → Option Dual
+last_of before (Some d) = Some d
+last_of before None = before
+
+-- the worlds that are told are those of a distribution that meets all sentences, gives the condition weight and the query
+-- the value
 pub record IsExample (p : Parts) (q : Query) (e : Example) : Type 0 where
   pub model : Model
   pub reached : Reaches (length p.names) (bounds_of p) (query_of p.nodes q) e.value (entries model.worlds)

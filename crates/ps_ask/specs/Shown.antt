@@ -109,9 +109,9 @@ abbrev pub no_output : Output
 no_output = record { text = []; report = []; status = Unreadable }
 
 -- the output shows a whole answer to a problem: it is valid and right, and each part has its certificates or comes of a lawful
--- run, unless something is shown as not finished in time; and what is told of each query is true: a value that is shown as reached
--- is reached by some distribution that meets the sentences, a bound holds by the sentences alone on which it is said to rest, and a
--- distribution that is shown with it reaches it
+-- run, unless something is shown as not finished in time; and what is told of each query is true: a value that is shown as
+-- reached is reached by some distribution that meets the sentences, a bound holds by the sentences alone on which it is said to
+-- rest, and a distribution that is shown with it reaches it
 pub record IsSolvedBy (s : Settings) (name : List ℕ) (p : Parts) (o : Output) : Type 0 where
   pub answer : Answer
   pub whole : IsWhole s p answer

@@ -1,16 +1,17 @@
 //! What is told of a query beneath the answer to it.
 ghost use Rattle.std.specs.Prelude.{◌≡◌, ◌&&◌, IfOk, IfSome, is_some};
 ghost use Rattle.ps_problem.specs.Problems.{HasNodes};
-ghost use Rattle.ps_support.specs.Supports.{kind_of};
-ghost use Rattle.ps_ask.specs.Details.{IsAsAsked, IsExample, IsSupport, IsTrueOf};
+ghost use Rattle.ps_support.specs.Supports.{IsSupport, kind_of};
+ghost use Rattle.ps_ask.specs.Details.{IsAsAsked, IsDualFor, IsExample, IsTrueOf};
 ghost use Rattle.ps_ask.specs.Details.{IsTrueOfSide, is_bound};
 ghost use Rattle.ps_ask.specs.Known.{IsBoundAt, IsModelFor, IsProvedFor, IsProvedSide};
 ghost use Rattle.ps_ask.specs.Known.{IsRightFor};
 
-use crate::lean::lean_bound;
+use crate::lean::lean_dual;
 use crate::reached::reached_of;
 use crate::settings::Settings;
-use ps_answer::{Model, QueryAnswer, SideAnswer};
+use ps_answer::{Dual, Model, QueryAnswer, SideAnswer};
+use ps_frac::Fraction;
 use ps_guess::{Trials, Watch};
 use ps_io::NoMemory;
 use ps_problem::{Problem, Query};
@@ -18,8 +19,49 @@ use ps_spoken::{Details, SideDetails};
 use ps_support::{BoundSide, Example, Support, example_of, support_of};
 use std::alloc::Global;
 
-// The sentences on which a bound rests, by a dual without certainties that it doesn't need.
-#[tactic(auto, using(crate::proofs::DetailLaws::shown_by, crate::proofs::DetailLaws::found_by))]
+// The sentences on which a bound rests, by a dual that shows it.
+fn support_with(
+    alloc: Global,
+    problem: &Problem,
+    query: Query,
+    side: BoundSide,
+    value: &Fraction,
+    dual: &Dual,
+    lines: &[u32],
+) -> Result<Support, NoMemory>
+    requires query { HasNodes problem.now.nodes query.formula query.given query.both }
+    requires dual { IsDualFor problem.now side query value.now dual.now }
+    ensures true_of { IfOk result (IsSupport problem.now query side) }
+    ensures value { IfOk result (λ s. s.value ≡ value.now) }
+{
+    support_of(alloc, problem, side, query, value, dual, lines)
+}
+
+// The same by a dual without certainties that the bound doesn't need, where one is found.
+fn support_lean(
+    alloc: Global,
+    problem: &Problem,
+    query: Query,
+    side: BoundSide,
+    value: &Fraction,
+    dual: &Dual,
+    lean: &Option<Dual>,
+    lines: &[u32],
+) -> Result<Support, NoMemory>
+    requires query { HasNodes problem.now.nodes query.formula query.given query.both }
+    requires dual { IsDualFor problem.now side query value.now dual.now }
+    requires lean { IfSome lean.now (IsDualFor problem.now side query value.now) }
+    ensures true_of { IfOk result (IsSupport problem.now query side) }
+    ensures value { IfOk result (λ s. s.value ≡ value.now) }
+{
+    match lean {
+        Some(less) => support_with(alloc, problem, query, side, value, less, lines),
+        None => support_with(alloc, problem, query, side, value, dual, lines),
+    }
+}
+
+// The sentences on which the bound of a side rests, where it is one.
+#[tactic(auto, using(crate::proofs::DetailLaws::shown_by))]
 fn support_by<W: Watch>(
     alloc: Global,
     trials: &Trials<'_>,
@@ -38,19 +80,9 @@ fn support_by<W: Watch>(
     let SideAnswer::Bound { value, model, dual } = answer else {
         return Ok(None);
     };
+    let lean = lean_dual(alloc, trials, side, query, value, model, dual, watch)?;
     let problem = trials.problem();
-    match lean_bound(alloc, trials, side, query, model, dual, watch)? {
-        Some(
-            SideAnswer::Bound {
-                value: same,
-                dual: lean,
-                ..
-            },
-        ) if same == *value => Ok(Some(support_of(
-            alloc, problem, side, query, value, &lean, lines,
-        )?)),
-        _ => Ok(Some(support_of(alloc, problem, side, query, value, dual, lines)?)),
-    }
+    Ok(Some(support_lean(alloc, problem, query, side, value, dual, &lean, lines)?))
 }
 
 // The sentences on which the bound of a side rests, where they are asked for and it is one.

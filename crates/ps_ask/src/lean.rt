@@ -3,9 +3,11 @@ ghost use Rattle.std.specs.Prelude.{◌≡◌, IfOk, IfSome};
 ghost use Rattle.ps_problem.specs.Problems.{HasNodes};
 ghost use Rattle.ps_support.specs.Supports.{kind_of};
 ghost use Rattle.ps_guess.specs.Trials.{IsFoundSide};
+ghost use Rattle.ps_ask.specs.Details.{IsDualFor, last_of};
 
 use ps_answer::{Dual, Model, SideAnswer, Weighted};
 use ps_claims::ClaimKind;
+use ps_frac::Fraction;
 use ps_guess::{Trial, Trials, Watch};
 use ps_io::{List, NoMemory};
 use ps_problem::{BoundAt, Problem, Query};
@@ -67,21 +69,49 @@ fn without(alloc: Global, dual: &Dual, place: usize) -> Result<Dual, NoMemory> {
     })
 }
 
-// The bound by a dual of these multipliers, where a short search refutes it.
+// The dual of a side that was found, where it shows this value.
+#[tactic(auto, using(crate::proofs::DetailLaws::found_by))]
+fn dual_at(
+    trials: &Trials<'_>,
+    side: BoundSide,
+    query: Query,
+    value: &Fraction,
+    found: SideAnswer,
+) -> Option<Dual>
+    requires found { IsFoundSide trials.now (kind_of side) query found }
+    ensures { IfSome result (IsDualFor trials.now side query value.now) }
+{
+    match found {
+        SideAnswer::Bound {
+            value: shown,
+            dual,
+            ..
+        } => {
+            if shown == *value {
+                return Some(dual);
+            }
+            None
+        }
+        SideAnswer::Open(_) => None,
+    }
+}
+
+// A dual of these multipliers that shows the value, where a short search refutes it.
 fn tried(
     alloc: Global,
     trials: &Trials<'_>,
     side: BoundSide,
     query: Query,
+    value: &Fraction,
     model: &Model,
     dual: Dual,
-) -> Result<Option<SideAnswer>, NoMemory>
+) -> Result<Option<Dual>, NoMemory>
     requires query { HasNodes trials.now.nodes query.formula query.given query.both }
-    ensures { IfOk result (λ o. IfSome o (IsFoundSide trials.now (kind_of side) query)) }
+    ensures { IfOk result (λ o. IfSome o (IsDualFor trials.now side query value.now)) }
 {
     let model = copy_of(alloc, model)?;
     match trials.bound(alloc, kind_of(side), query, model, dual, CONFLICTS)? {
-        Trial::Shown(found) => Ok(Some(found)),
+        Trial::Shown(found) => Ok(dual_at(trials, side, query, value, found)),
         Trial::Found(_) | Trial::Wrong(_) | Trial::Spent => Ok(None),
     }
 }
@@ -91,59 +121,63 @@ fn multiplier_at(dual: &Dual, place: usize) -> i128 {
     dual.rows.as_slice().get(place).copied().unwrap_or(0)
 }
 
-// The dual of a bound.
-fn dual_of(side: &SideAnswer) -> Option<&Dual> {
-    match side {
-        SideAnswer::Bound { dual, .. } => Some(dual),
-        SideAnswer::Open(_) => None,
-    }
-}
-
-// The bound by a dual without the multiplier at a place, where that is of a certainty, isn't 0 and
-// isn't needed.
+// A dual without the multiplier at a place, where that is of a certainty, isn't 0 and isn't needed.
 fn without_certainty(
     alloc: Global,
     trials: &Trials<'_>,
     side: BoundSide,
     query: Query,
+    value: &Fraction,
     model: &Model,
     dual: &Dual,
     place: usize,
-) -> Result<Option<SideAnswer>, NoMemory>
+) -> Result<Option<Dual>, NoMemory>
     requires query { HasNodes trials.now.nodes query.formula query.given query.both }
-    ensures { IfOk result (λ o. IfSome o (IsFoundSide trials.now (kind_of side) query)) }
+    ensures { IfOk result (λ o. IfSome o (IsDualFor trials.now side query value.now)) }
 {
-    if multiplier_at(dual, place) == 0 || !is_certain(trials.problem(), place) {
+    if multiplier_at(dual, place) == 0 {
+        return Ok(None);
+    }
+    if !is_certain(trials.problem(), place) {
         return Ok(None);
     }
     let less = without(alloc, dual, place)?;
-    tried(alloc, trials, side, query, model, less)
+    tried(alloc, trials, side, query, value, model, less)
 }
 
-/// The same bound by a dual that has no multiplier for certainties that it doesn't need, as far as
-/// short searches tell and time is left. None where each is needed.
-pub(crate) fn lean_bound<W: Watch>(
+// The last of two that there is.
+fn last_of(before: Option<Dual>, last: Option<Dual>) -> Option<Dual>
+    ensures { result ≡ last_of before last }
+{
+    match last {
+        Some(dual) => Some(dual),
+        None => before,
+    }
+}
+
+/// A dual that shows the same bound and has no multiplier for certainties that it doesn't need, as
+/// far as short searches tell and time is left. None where each is needed.
+pub(crate) fn lean_dual<W: Watch>(
     alloc: Global,
     trials: &Trials<'_>,
     side: BoundSide,
     query: Query,
+    value: &Fraction,
     model: &Model,
     dual: &Dual,
     watch: &mut W,
-) -> Result<Option<SideAnswer>, NoMemory>
+) -> Result<Option<Dual>, NoMemory>
     requires query { HasNodes trials.now.nodes query.formula query.given query.both }
-    ensures { IfOk result (λ o. IfSome o (IsFoundSide trials.now (kind_of side) query)) }
+    ensures { IfOk result (λ o. IfSome o (IsDualFor trials.now side query value.now)) }
 {
     let mut least = None;
     for place in 0..dual.rows.len() {
         if watch.is_over() {
             return Ok(least);
         }
-        let now = least.as_ref().and_then(dual_of).unwrap_or(dual);
-        let less = without_certainty(alloc, trials, side, query, model, now, place)?;
-        if less.is_some() {
-            least = less;
-        }
+        let now = least.as_ref().unwrap_or(dual);
+        let less = without_certainty(alloc, trials, side, query, value, model, now, place)?;
+        least = last_of(least, less);
     }
     Ok(least)
 }

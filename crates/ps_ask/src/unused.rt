@@ -1,7 +1,8 @@
 //! The sentences on which no bound rests.
 ghost use Rattle.std.specs.Prelude.{◌≡◌, ◌≤◌, ◌++◌, IfOk, OnOk, length};
 ghost use Rattle.ps_problem.specs.declared.limits.TheConstants.{MOST_BOUNDS};
-ghost use Rattle.ps_ask.specs.Unused.{is_among, is_named, is_used, unused_from, unused_in};
+ghost use Rattle.ps_ask.specs.Unused.{is_among, is_named, is_told, is_used, unused_from};
+ghost use Rattle.ps_ask.specs.Unused.{unused_after, unused_one};
 
 use crate::settings::Settings;
 use ps_answer::{Answer, Verdict};
@@ -15,12 +16,7 @@ use std::alloc::Global;
 fn is_among(number: u32, sentences: &[Supporting]) -> bool
     ensures { result ≡ is_among number sentences.now }
 {
-    for one in sentences {
-        if one.sentence == number {
-            return true;
-        }
-    }
-    false
+    sentences.iter().any(|one| one.sentence == number)
 }
 
 // Whether a bound rests on it, by what is told of the bound.
@@ -33,19 +29,35 @@ fn is_named(number: u32, support: &Option<Support>) -> bool
     }
 }
 
+// Whether a bound of a query does.
+fn is_told(number: u32, told: &Details) -> bool
+    ensures { result ≡ is_told number told.now }
+{
+    if is_named(number, &told.lower.support) {
+        return true;
+    }
+    is_named(number, &told.upper.support)
+}
+
 // Whether a bound of some query does.
 fn is_used(number: u32, details: &[Details]) -> bool
     ensures { result ≡ is_used number details.now }
 {
-    for told in details {
-        if is_named(number, &told.lower.support) || is_named(number, &told.upper.support) {
-            return true;
-        }
+    details.iter().any(|told| is_told(number, told))
+}
+
+// Notes a sentence on which no bound rests.
+fn push_unused(unused: &mut List<u32>, number: u32, details: &[Details]) -> Result<(), NoMemory>
+    ensures { OnOk result (unused.new ≡ unused.old ++ unused_one number details.now) }
+{
+    if is_used(number, details) {
+        return Ok(());
     }
-    false
+    unused.push(number)
 }
 
 // The sentences on which no bound rests.
+#[tactic(auto, using(crate::proofs::UnusedLaws::unused_next, crate::proofs::UnusedLaws::unused_all))]
 fn unused_by(
     alloc: Global,
     sentences: &[Sentence],
@@ -56,10 +68,7 @@ fn unused_by(
 {
     let mut unused = List::new(alloc);
     for place in 0..sentences.len() {
-        let number = place as u32 + 1;
-        if !is_used(number, details) {
-            unused.push(number)?;
-        }
+        push_unused(&mut unused, place as u32 + 1, details)?;
     }
     Ok(unused)
 }
@@ -73,8 +82,8 @@ pub(crate) fn unused_in(
     answer: &Answer,
     details: &[Details],
 ) -> Result<Option<List<u32>>, NoMemory>
-    ensures { IfOk result (λ unused. unused
-        ≡ unused_in settings.tells_support problem.now answer.now.verdict details.now) }
+    ensures { IfOk result (λ ns. ns
+        ≡ unused_after settings problem.now answer.now details.now) }
 {
     if !settings.tells_support {
         return Ok(None);
