@@ -1,6 +1,7 @@
 -- The bounds whose multipliers aren't 0, one after the other.
-use Rattle.std.proofs.Common.{◌≡◌, ◌≤◌, ◌<◌, ◌+◌, ◌∙◌, ℕ, zero, suc, ℤ, pos, negsuc, Bool, true, false, cond, List, [], ◌∷◌, ◌++◌, map, Option, Some, None, length, get_or, refl, sym, ap, subst, arith}
-use Rattle.std.specs.Prelude.{option_to_list, slice_get}
+use Rattle.std.proofs.Common.{◌≡◌, ◌≤◌, ◌<◌, ◌+◌, ◌∙◌, ℕ, zero, suc, ℤ, pos, negsuc, Bool, true, false, cond, List, [], ◌∷◌, ◌++◌, map, Option, Some, None, Result, Ok, Err, OnOk, length, get_or, refl, sym, ap, subst, append-nil, arith}
+use Rattle.std.specs.Prelude.{option_to_list, slice_get, unsigned_abs}
+use Rattle.ps_meaning.specs.Rational.{Rational}
 use Rattle.std.proofs.lemmas.List.{length-map}
 use Rattle.std.proofs.lemmas.Slice.Zip.{AllZip-long}
 use Rattle.ps_problem.specs.declared.query.Query as stored
@@ -14,7 +15,8 @@ use Rattle.ps_support.specs.declared.bound_side.BoundSide.{BoundSide}
 use Rattle.ps_support.specs.declared.places.BoundPlace.{BoundPlace}
 use Rattle.ps_support.specs.declared.support.Supporting.{Supporting}
 use Rattle.ps_support.specs.Places.{places_in}
-use Rattle.ps_support.specs.Supports.{is_other, line_in, support_at, support_by, supporting, supports_in, supports_to, unit_of}
+use Rattle.ps_support.specs.Rates.{hundredth_where, rate_of, size_of}
+use Rattle.ps_support.specs.Supports.{is_free, is_other, line_in, support_at, support_by, supporting, supports_in, supports_to, unit_of}
 use Rattle.ps_support.proofs.Owned.{IsOwned, owned}
 
 -- ---- places and rows
@@ -34,10 +36,20 @@ past_bounds ss places i e past = subst (λ (n : ℕ). n ≤ i) (ap length e ∙ 
 pub row_inside : (ss : List Sentence) (rows : List Row) (i : ℕ) → rows ≡ rows_in ss → i < length (bounds_in ss) → i < length rows
 row_inside ss rows i e lt = subst (λ (n : ℕ). i < n) (sym (ap length e ∙ length-map (bounds_in ss) row_at)) lt
 
-got : {X : Type 0} (xs : List X) (i : ℕ) (x : X) → i < length xs → x ≡ get_or xs i x → slice_get xs i ≡ Some x
+pub read_at : (xs : List ℤ) (i : ℕ) (y : ℤ) → i < length xs → y ≡ get_or xs i y → y ≡ get_or xs i (pos 0)
+read_at [] i y lt is = absurd (omega (arith, lt))
+read_at (x ∷ xs) zero y lt is = is
+read_at (x ∷ xs) (suc i) y lt is = read_at xs i y (omega (arith, lt)) is
+
+pub got : {X : Type 0} (xs : List X) (i : ℕ) (x : X) → i < length xs → x ≡ get_or xs i x → slice_get xs i ≡ Some x
 got [] i x lt is = absurd (omega (arith, lt))
 got (y ∷ xs) zero x lt is = ap Some (sym is)
 got (y ∷ xs) (suc i) x lt is = got xs i x (omega (arith, lt)) is
+
+pub got_or : {X : Type 0} (xs : List X) (i : ℕ) (d : X) → i < length xs → slice_get xs i ≡ Some (get_or xs i d)
+got_or [] i d lt = absurd (omega (arith, lt))
+got_or (x ∷ xs) zero d lt = refl
+got_or (x ∷ xs) (suc i) d lt = got_or xs i d (omega (arith, lt))
 
 plain-unit : (b : Bound) (g : Option ℕ) → (plain_row b g).unit ≡ b.den
 plain-unit b None = refl
@@ -53,6 +65,9 @@ unit-at [] i r lt is = absurd (omega (arith, lt))
 unit-at (b ∷ bs) zero r lt is = ap (λ (x : Row). x.unit) is ∙ unit-is b
 unit-at (b ∷ bs) (suc i) r lt is = unit-at bs i r (omega (arith, lt)) is
 
+pub unit_there : (ss : List Sentence) (rows : List Row) (i : ℕ) (r : Row) → rows ≡ rows_in ss → i < length (bounds_in ss) → r ≡ get_or rows i r → r.unit ≡ unit_of (slice_get (bounds_in ss) i)
+unit_there ss rows i r laid lt is = unit-at (bounds_in ss) i r lt (subst (λ (rs : List Row). r ≡ get_or rs i r) laid is)
+
 -- ---- one bound
 module _ (p : Parts) (side : BoundSide) (q : stored.Query) (d : Dual) (lines : List ℕ) where
   other-of : (y : ℤ) → (y ≡ pos 0 → ⊥) → is_other y ≡ true
@@ -67,32 +82,52 @@ module _ (p : Parts) (side : BoundSide) (q : stored.Query) (d : Dual) (lines : L
   no-support None b y e = refl
   no-support (Some place) b y e = rw e refl
 
-  at-any : {X : Type 0} (xs : List X) (i : ℕ) (a b : X) → i < length xs → get_or xs i a ≡ get_or xs i b
-  at-any [] i a b lt = absurd (omega (arith, lt))
-  at-any (x ∷ xs) zero a b lt = refl
-  at-any (x ∷ xs) (suc i) a b lt = at-any xs i a b (omega (arith, lt))
-
-  -- of a multiplier that is 0 nothing is told
-  pub is_none : (i : ℕ) (y : ℤ) → y ≡ get_or d.rows i y → i < length d.rows → y ≡ pos 0 → support_at p side q d lines i ≡ None
-  unfolding support_at
-  is_none i y is lt e =
-      no-support (slice_get (places_in 1 p.sentences) i) (slice_get (bounds_in p.sentences) i) (get_or d.rows i (pos 0), d.top)
-      (same-of (get_or d.rows i (pos 0)) (sym (at-any d.rows i y (pos 0) lt) ∙ sym is ∙ e))
-
   by-place : (o : Option BoundPlace) (b : Option BoundIn) (place : BoundPlace) (y : ℤ × ℤ) → o ≡ Some place → is_other y.0 ≡ true
       → support_by side q b o lines y ≡ Some (supporting side q b place (line_in lines place.sentence) y)
   by-place o b place y e f = rw (e, f) refl
 
-  -- what is told of another multiplier
-  pub is_support : (i : ℕ) (places : List BoundPlace) (place : BoundPlace) (y : ℤ) → places ≡ places_in 1 p.sentences → i < length places → place ≡ get_or places i place
-      → i < length d.rows → y ≡ get_or d.rows i y → (y ≡ pos 0 → ⊥)
+  -- so nothing is noted of the one, and one bound of the other
+  pub none_noted : (i : ℕ) (y : ℤ) → y ≡ get_or d.rows i (pos 0) → y ≡ pos 0 → (old : List Supporting) → old ≡ old ++ option_to_list (support_at p side q d lines i)
+  unfolding support_at
+  none_noted i y is e old =
+      let none : support_at p side q d lines i ≡ None =
+      no-support (slice_get (places_in 1 p.sentences) i) (slice_get (bounds_in p.sentences) i) (get_or d.rows i (pos 0), d.top) (same-of (get_or d.rows i (pos 0)) (sym is ∙ e)) in
+      sym (append-nil old) ∙ ap (λ (o : Option Supporting). old ++ option_to_list o) (sym none)
+
+  at-place : (i : ℕ) (places : List BoundPlace) (place : BoundPlace) (y : ℤ) → places ≡ places_in 1 p.sentences → slice_get places i ≡ Some place → y ≡ get_or d.rows i (pos 0) → (y ≡ pos 0 → ⊥)
       → support_at p side q d lines i ≡ Some (supporting side q (slice_get (bounds_in p.sentences) i) place (line_in lines place.sentence) (y, d.top))
   unfolding support_at
-  is_support i places place y e inside is lt same other =
-      let there : slice_get (places_in 1 p.sentences) i ≡ Some place = subst (λ (ps : List BoundPlace). slice_get ps i ≡ Some place) e (got places i place inside is) in
-      let value : y ≡ get_or d.rows i (pos 0) = same ∙ at-any d.rows i y (pos 0) lt in
-      ap (λ (x : ℤ). support_by side q (slice_get (bounds_in p.sentences) i) (slice_get (places_in 1 p.sentences) i) lines (x, d.top)) (sym value)
-      ∙ by-place (slice_get (places_in 1 p.sentences) i) (slice_get (bounds_in p.sentences) i) place (y, d.top) there (other-of y other)
+  at-place i places place y e there is other =
+      let bound = slice_get (bounds_in p.sentences) i in
+      let stands : slice_get (places_in 1 p.sentences) i ≡ Some place = subst (λ (ps : List BoundPlace). slice_get ps i ≡ Some place) e there in
+      ap (λ (x : ℤ). support_by side q bound (slice_get (places_in 1 p.sentences) i) lines (x, d.top)) (sym is)
+      ∙ by-place (slice_get (places_in 1 p.sentences) i) bound place (y, d.top) stands (other-of y other)
+
+  pub one_noted : {T E : Type 0} (r : Result T E) (i : ℕ) (places : List BoundPlace) (place : BoundPlace) (y : ℤ) (one : Supporting) → places ≡ places_in 1 p.sentences
+      → slice_get places i ≡ Some place → y ≡ get_or d.rows i (pos 0) → (y ≡ pos 0 → ⊥)
+      → one ≡ supporting side q (slice_get (bounds_in p.sentences) i) place (line_in lines place.sentence) (y, d.top)
+      → (old new : List Supporting) → OnOk r (new ≡ old ++ one ∷ []) → OnOk r (new ≡ old ++ option_to_list (support_at p side q d lines i))
+  one_noted (Ok x) i places place y one e there is other told old new h =
+      h ∙ ap (λ (s : Supporting). old ++ s ∷ []) told ∙ ap (λ (o : Option Supporting). old ++ option_to_list o) (sym (at-place i places place y e there is other))
+  one_noted (Err x) i places place y one e there is other told old new h = tt
+
+-- what is told of a bound, by its parts
+abbrev in-parts : BoundPlace → ℕ → ℕ → Rational → Option Rational → Supporting
+in-parts place line weight rate moved = record { sentence = place.sentence; line = line; end = place.end; rate = rate; hundredth = moved; weight = weight }
+
+pub told_of : (side : BoundSide) (q : stored.Query) (b : Option BoundIn) (place : BoundPlace) (lines : List ℕ) (y top : ℤ) (unit : ℕ) (size : ℤ) (free : Bool) (line weight : ℕ)
+    (rate : Rational) (moved : Option Rational) → unit ≡ unit_of b → size ≡ size_of y unit → free ≡ is_free q b → line ≡ line_in lines place.sentence → weight ≡ unsigned_abs size
+    → rate ≡ rate_of side size top → moved ≡ hundredth_where free side size top → (one : Supporting)
+    → one ≡ in-parts place line weight rate moved → one ≡ supporting side q b place (line_in lines place.sentence) (y, top)
+told_of side q b place lines y top unit size free line weight rate moved counted sized freed lined weighed rated hundred one is =
+    let whole : size ≡ size_of y (unit_of b) = sized ∙ ap (λ (n : ℕ). size_of y n) counted in
+    let fast : rate ≡ rate_of side (size_of y (unit_of b)) top = rated ∙ ap (λ (z : ℤ). rate_of side z top) whole in
+    let moves : moved ≡ hundredth_where (is_free q b) side (size_of y (unit_of b)) top =
+    hundred ∙ ap (λ (f : Bool). hundredth_where f side size top) freed ∙ ap (λ (z : ℤ). hundredth_where (is_free q b) side z top) whole in
+    let weighs : weight ≡ unsigned_abs (size_of y (unit_of b)) = weighed ∙ ap unsigned_abs whole in
+    let told : in-parts place line weight rate moved ≡ supporting side q b place (line_in lines place.sentence) (y, top) =
+    (λ j. in-parts place (lined j) (weighs j) (fast j) (moves j)) in
+    is ∙ told
 
 -- ---- all bounds
 -- those of the first bounds are found

@@ -8,8 +8,9 @@ use Rattle.ps_meaning.specs.Bounds.{Bound}
 use Rattle.ps_meaning.specs.Rows.{Row, row_in}
 use Rattle.ps_meaning.specs.Rational.{Rational}
 use Rattle.ps_claims.specs.Queries.{Query, Holds}
-use Rattle.ps_claims.specs.Duals.{Dual, ClaimKind, Nothing, HasSign, HaveSigns, HasValueHead, AreZeroElsewhere, IsNeverAbove, claimed_in, combination, kept_of, sum_of_rows}
-use Rattle.ps_claims.specs.Duals as claimed
+use Rattle.ps_claims.specs.Duals.{Dual, HasSign, HaveSigns, HasValueHead, AreZeroElsewhere, IsNeverAbove, claimed_in, combination, kept_of, sum_of_rows}
+use Rattle.ps_claims.specs.declared.claim_kind.ClaimKind.{ClaimKind}
+use Rattle.ps_claims.specs.declared.claim_kind.ClaimKind.TheVariants as claimed
 use Rattle.ps_claims.specs.Rows.{AreRowsOf}
 use Rattle.ps_claims.proofs.ProblemRows.{kept-rows}
 use Rattle.ps_claims.proofs.Duality.{shows_lower, shows_upper}

@@ -1,6 +1,6 @@
 -- Lists that grow by the part of one item after the other.
-use Rattle.std.proofs.Common.{◌≡◌, ◌≤◌, ◌<◌, ◌+◌, ◌∙◌, ℕ, suc, Bool, true, false, List, [], ◌∷◌, ◌++◌, length, drop, get_or, refl, sym, ap, append_assoc, append-nil, arith}
-use Rattle.std.proofs.lemmas.List.{drop_all, drop_more}
+use Rattle.std.proofs.Common.{◌≡◌, ◌≤◌, ◌<◌, ◌+◌, ◌∙◌, ℕ, suc, Bool, true, false, List, [], ◌∷◌, ◌++◌, map, take, length, drop, get_or, refl, sym, ap, append_assoc, append-nil, arith}
+use Rattle.std.proofs.lemmas.List.{drop_all, drop_more, map-append, take_all, take_more}
 use Rattle.ps_problem.specs.declared.sentence.Sentence.{Sentence}
 use Rattle.ps_problem.specs.Problems.{bounds_of_sentence}
 use Rattle.ps_support.specs.declared.places.BoundPlace.{BoundPlace}
@@ -39,3 +39,15 @@ places_next ss i s old new lt is grown h =
 
 pub places_all : (ss : List Sentence) (i : ℕ) (found : List BoundPlace) → length ss ≤ i → found ++ places_in (i + 1) (drop i ss) ≡ places_in 1 ss → found ≡ places_in 1 ss
 places_all ss i found past h = sym (append-nil found) ∙ ap (λ l. found ++ places_in (i + 1) l) (sym (drop_all i ss past)) ∙ h
+
+-- ---- worlds
+module _ {X Y : Type 0} (f : X → Y) where
+  pub mapped_next : (xs : List X) (i : ℕ) (x : X) → i < length xs → x ≡ get_or xs i x → (old new : List Y) → new ≡ old ++ f x ∷ [] → old ≡ map f (take i xs)
+      → new ≡ map f (take (i + 1) xs)
+  mapped_next xs i x lt is old new grown h =
+      let one : f x ≡ f (get_or xs i x) = ap f is in
+      grown ∙ ap (λ l. l ++ f x ∷ []) h ∙ ap (λ (y : Y). map f (take i xs) ++ y ∷ []) one
+      ∙ sym (map-append f (take i xs) (get_or xs i x ∷ [])) ∙ ap (map f) (sym (take_more xs i x lt))
+
+  pub mapped_all : (xs : List X) (i : ℕ) → length xs ≤ i → (found : List Y) → found ≡ map f (take i xs) → found ≡ map f xs
+  mapped_all xs i past found h = h ∙ ap (map f) (take_all i xs past)

@@ -1,5 +1,5 @@
 -- Each bound stands in the sentence that its place names.
-use Rattle.std.proofs.Common.{◌≡◌, ◌≤◌, ◌<◌, ◌+◌, ◌-◌, ◌∙◌, ℕ, zero, suc, Bool, true, false, cond, List, [], ◌∷◌, ◌++◌, Some, None, length, refl, sym, ap, subst, inl, inr, append_assoc, arith}
+use Rattle.std.proofs.Common.{◌≡◌, ◌≤◌, ◌<◌, ◌+◌, ◌-◌, ◌∙◌, ℕ, zero, suc, Bool, true, false, cond, List, [], ◌∷◌, ◌++◌, Some, None, length, length-append, refl, sym, ap, subst, inl, inr, append_assoc, arith}
 use Rattle.std.specs.Prelude.{◌⊎◌, is_some, slice_get}
 use Rattle.std.specs.List.{AllZip, Contains}
 use Rattle.ps_problem.specs.declared.sentence.Sentence.{Sentence}
@@ -41,7 +41,7 @@ owned-here : (ss : List Sentence) (n : ℕ) (bs : List BoundIn) → (length bs �
 owned-here ss n [] (inl e) all = absurd (omega (arith, e))
 owned-here ss n [] (inr e) all = absurd (omega (arith, e))
 owned-here ss n (b ∷ []) e all = (all b (0, omega arith, refl), tt)
-owned-here ss n (b ∷ c ∷ []) e all = (all b (0, omega arith, refl), all c (1, omega arith, refl), tt)
+owned-here ss n (b ∷ c ∷ []) e all = (all b (0, omega arith, refl), (all c (1, omega arith, refl), tt))
 owned-here ss n (b ∷ c ∷ d ∷ bs) (inl e) all = absurd (omega (arith, e))
 owned-here ss n (b ∷ c ∷ d ∷ bs) (inr e) all = absurd (omega (arith, e))
 
@@ -71,21 +71,16 @@ pub owned : (ss : List Sentence) → AllZip (IsOwned ss) (bounds_in ss) (places_
 owned ss = owned-from [] ss
 
 -- ---- counts
-length-append : {X : Type 0} (xs ys : List X) → length (xs ++ ys) ≡ length xs + length ys
-length-append [] ys = refl
-length-append (x ∷ xs) ys = ap suc (length-append xs ys)
+one-or-two : (n m k : ℕ) → n ≤ m → (k ≡ 1) ⊎ (k ≡ 2) → suc n ≤ k + m
+one-or-two n m k le (inl e) = omega (arith, le, e)
+one-or-two n m k le (inr e) = omega (arith, le, e)
 
 -- there are no more sentences than bounds
 pub sentences_few : (ss : List Sentence) → length ss ≤ length (bounds_in ss)
 sentences_few [] = omega arith
-sentences_few (s ∷ ss) = by (count s)
-  where
-    sum : length (bounds_of_sentence s ++ bounds_in ss) ≡ length (bounds_of_sentence s) + length (bounds_in ss)
-    sum = length-append (bounds_of_sentence s) (bounds_in ss)
-
-    by : (length (bounds_of_sentence s) ≡ 1) ⊎ (length (bounds_of_sentence s) ≡ 2) → suc (length ss) ≤ length (bounds_of_sentence s ++ bounds_in ss)
-    by (inl e) = omega (arith, sum, e, sentences_few ss)
-    by (inr e) = omega (arith, sum, e, sentences_few ss)
+sentences_few (s ∷ ss) =
+    subst (λ (k : ℕ). suc (length ss) ≤ k) (sym (length-append (bounds_of_sentence s) (bounds_in ss)))
+    (one-or-two (length ss) (length (bounds_in ss)) (length (bounds_of_sentence s)) (sentences_few ss) (count s))
 
 -- so they are no more than a problem may have
 pub sentences_within : (p : Parts) → AreParts p → length p.sentences ≤ 100

@@ -70,14 +70,14 @@ module _ (p : Parts) (side : BoundSide) (q : stored.Query) (d : Dual) (lines : L
   abbrev to : ℕ → List Supporting
   to n = supports_to p side q d lines n
 
+  step : (n i : ℕ) → All Has (to n ++ option_to_list (at n)) → (i < n → IfSome (at i) Has) → (i < n) ⊎ (i ≡ n) → IfSome (at i) Has
+  step n i h earlier (inl lt) = earlier lt
+  step n i h earlier (inr e) = subst (λ (k : ℕ). IfSome (at k) Has) (sym e) (if-some Has (at n) (back Has (to n) (option_to_list (at n)) h))
+
   -- what all that are told have, each has whose multiplier isn't 0
   to-each : (n : ℕ) → All Has (to n) → (i : ℕ) → i < n → IfSome (at i) Has
   to-each zero h i lt = absurd (omega (arith, lt))
-  to-each (suc n) h i lt = by (last-or-before i n lt)
-    where
-      by : (i < n) ⊎ (i ≡ n) → IfSome (at i) Has
-      by (inl before) = to-each n (front Has (to n) (option_to_list (at n)) h) i before
-      by (inr e) = subst (λ (k : ℕ). IfSome (at k) Has) (sym e) (if-some Has (at n) (back Has (to n) (option_to_list (at n)) h))
+  to-each (suc n) h i lt = step n i h (λ before. to-each n (front Has (to n) (option_to_list (at n)) h) i before) (last-or-before i n lt)
 
   named : (o : Option BoundPlace) (place : BoundPlace) (b : Option BoundIn) (y top : ℤ) → o ≡ Some place → is_other y ≡ true → IfSome (support_by side q b o lines (y, top)) Has → P place.sentence
   named o place b y top e f h = rw (e, f) at h
@@ -97,26 +97,23 @@ module _ (P : ℕ → Type 0) where
       (h 0 x (omega arith) refl, named-zip places ys (omega (arith, e)) (λ i place lt g f. h (suc i) place (omega (arith, lt)) g f))
 
 -- ---- distributions
+kept-first : (d : List Entry) (b : Bound) (bs : List Bound) (k : Bool) (ks : List Bool) → (k ≡ true → MeetsBound b d) → MeetsAll (kept_of ks bs) d → MeetsAll (kept_of (k ∷ ks) (b ∷ bs)) d
+kept-first d b bs true ks here later = All-cons (λ c. MeetsBound c d) b (kept_of ks bs) (here refl) later
+kept-first d b bs false ks here later = later
+
 -- one that meets the sentences of the bounds whose multipliers aren't 0 meets these bounds
 meets : (p : Parts) (d : List Entry) (bs : List BoundIn) (places : List BoundPlace) (ys : List ℤ) → AllZip (IsOwned p.sentences) bs places
     → AllZip (λ place y. is_other y ≡ true → MeetsSentence p d place.sentence) places ys → MeetsAll (kept_of (map is_other ys) (map (bound_of p.nodes) bs)) d
-meets p d [] [] [] own named = All-nil (λ b. MeetsBound b d)
-meets p d [] [] (y ∷ ys) own named = absurd named
-meets p d [] (x ∷ places) ys own named = absurd own
-meets p d (b ∷ bs) [] ys own named = absurd own
-meets p d (b ∷ bs) (x ∷ places) [] own named = absurd named
-meets p d (b ∷ bs) (x ∷ places) (y ∷ ys) own named = by (is_other y) refl
-  where
-    later : MeetsAll (kept_of (map is_other ys) (map (bound_of p.nodes) bs)) d
-    later = meets p d bs places ys own.1 named.1
-
-    by : (k : Bool) → is_other y ≡ k → MeetsAll (kept_of (k ∷ map is_other ys) (map (bound_of p.nodes) (b ∷ bs))) d
-    by true e =
-        All-cons (λ c. MeetsBound c d) (bound_of p.nodes b) (kept_of (map is_other ys) (map (bound_of p.nodes) bs))
-        (contained (λ c. MeetsBound (bound_of p.nodes c) d) (bounds_at (slice_get p.sentences (x.sentence - 1))) b
-        (mapped (bound_of p.nodes) (λ c. MeetsBound c d) (bounds_at (slice_get p.sentences (x.sentence - 1))) (named.0 e)) own.0)
-        later
-    by false e = later
+meets p d [] [] [] own told = All-nil (λ b. MeetsBound b d)
+meets p d [] [] (y ∷ ys) own told = absurd told
+meets p d [] (x ∷ places) ys own told = absurd own
+meets p d (b ∷ bs) [] ys own told = absurd own
+meets p d (b ∷ bs) (x ∷ places) [] own told = absurd told
+meets p d (b ∷ bs) (x ∷ places) (y ∷ ys) own told =
+    let here = bounds_at (slice_get p.sentences (x.sentence - 1)) in
+    kept-first d (bound_of p.nodes b) (map (bound_of p.nodes) bs) (is_other y) (map is_other ys)
+    (λ e. contained (λ (c : BoundIn). MeetsBound (bound_of p.nodes c) d) here b (mapped (bound_of p.nodes) (λ (c : Bound). MeetsBound c d) here (told.0 e)) own.0)
+    (meets p d bs places ys own.1 told.1)
 
 -- ---- the bound
 module _ (p : Parts) (side : BoundSide) (q : stored.Query) (value : Rational) (d : Dual) (are : AreParts p) (shown : IsShownBy p side q value d) where

@@ -1,12 +1,13 @@
 -- The worlds of a distribution, by the atoms that are true in them.
-use Rattle.std.specs.Prelude.{ℕ, suc, ℤ, pos, ◌<ℤ◌, unsigned_abs, Bool, true, false, List, [], ◌∷◌, All}
-use Rattle.std.specs.List.Sorted.{IsSortedByKey}
+use Rattle.std.specs.Prelude.{ℕ, suc, ℤ, pos, ◌<ℤ◌, unsigned_abs, Bool, true, false, List, [], ◌∷◌, map, All}
+use Rattle.std.specs.List.Sorted.{IsPermutation, IsSortedByKey}
 use Rattle.std.specs.Ordering.{int_cmp}
 use Rattle.ps_meaning.specs.Formula.{World}
 use Rattle.ps_meaning.specs.Rational.{fraction}
 use Rattle.ps_meaning.specs.Wide.{Fits}
 use Rattle.ps_answer.specs.declared.answer.Model.{Model}
 use Rattle.ps_answer.specs.declared.answer.Weighted.{Weighted}
+use Rattle.ps_support.specs.declared.example.Example.{Example}
 use Rattle.ps_support.specs.declared.example.Likely.{Likely}
 
 -- the numbers of the atoms that are true, of which the first has this number
@@ -34,3 +35,7 @@ AreWeights m = All (λ w. Fits w.weight) m.worlds
 -- worlds are sorted by weight, the greatest first
 abbrev pub FallByWeight : List Likely → Type 0
 FallByWeight ws = IsSortedByKey (λ w. w.weight) (λ a b. int_cmp b a) ws
+
+-- the worlds that are told are those of the distribution
+abbrev pub HasWorlds : Model → Example → Type 0
+HasWorlds m e = IsPermutation (map (likely_of m.total) m.worlds) e.worlds

@@ -1,8 +1,8 @@
 -- The sentences on which a bound rests.
-use Rattle.std.specs.Prelude.{◌-◌, ◌&&◌, ℕ, zero, suc, ℤ, pos, negsuc, ◌≤ℤ◌, unsigned_abs, Bool, true, false, not, is_none, is_some}
-use Rattle.std.specs.Prelude.{if◌then◌else◌, List, [], ◌++◌, length, map, get_or, slice_get}
+use Rattle.std.specs.Prelude.{◌-◌, ◌&&◌, ℕ, zero, suc, ℤ, pos, negsuc, ◌≤ℤ◌, unsigned_abs, Bool, true, false, not}
+use Rattle.std.specs.Prelude.{is_none, is_some, if◌then◌else◌, List, [], ◌++◌, length, map, get_or, slice_get}
 use Rattle.std.specs.Prelude.{Option, Some, None, option_to_list, All}
-use Rattle.std.specs.List.Sorted.{IsSortedByKey}
+use Rattle.std.specs.List.Sorted.{IsPermutation, IsSortedByKey}
 use Rattle.std.specs.Ordering.{nat_cmp}
 use Rattle.ps_meaning.specs.Formula.{Formula}
 use Rattle.ps_meaning.specs.Distribution.{Entry, weight, IsDistribution}
@@ -17,15 +17,16 @@ use Rattle.ps_answer.specs.declared.answer.Dual.{Dual}
 use Rattle.ps_claims.specs.Queries.{Query, bound_on}
 use Rattle.ps_claims.specs.Duals.{HasValueHead}
 use Rattle.ps_claims.specs.Certificates.{dual_of}
-use Rattle.ps_claims.specs.Validity.{IsRefuted}
+use Rattle.ps_claims.specs.Validity.{IsRefuted, query_of}
 use Rattle.ps_claims.specs.declared.claim_kind.ClaimKind.{ClaimKind}
 use Rattle.ps_claims.specs.declared.claim_kind.ClaimKind.TheVariants as kind
 use Rattle.ps_support.specs.declared.bound_side.BoundSide.{BoundSide}
 use Rattle.ps_support.specs.declared.bound_side.BoundSide.TheVariants.{Lower, Upper}
 use Rattle.ps_support.specs.declared.places.BoundPlace.{BoundPlace}
+use Rattle.ps_support.specs.declared.support.Support.{Support}
 use Rattle.ps_support.specs.declared.support.Supporting.{Supporting}
 use Rattle.ps_support.specs.Places.{places_in}
-use Rattle.ps_support.specs.Rates.{hundredth_of, rate_of, size_of}
+use Rattle.ps_support.specs.Rates.{hundredth_where, rate_of, size_of}
 
 -- ---- bounds that rest on some sentences
 -- the bounds of the sentence of a number, from 1; none where there is no such sentence
@@ -77,6 +78,10 @@ has_condition (Some (PlainIn b)) = is_some b.given
 has_condition (Some (LinearIn l upper)) = false
 has_condition None = false
 
+-- neither it nor the query has a condition
+abbrev pub is_free : stored.Query → Option BoundIn → Bool
+is_free q bound = is_none q.given && not (has_condition bound)
+
 -- what a bound's number counts in
 abbrev pub unit_of : Option BoundIn → ℕ
 unit_of (Some (PlainIn b)) = b.den
@@ -87,17 +92,21 @@ unit_of None = 1
 abbrev pub line_in : List ℕ → ℕ → ℕ
 line_in lines n = get_or lines (n - 1) 0
 
--- a bound of a problem, by its multiplier, which isn't 0, in a dual with this top. Where neither it nor the query has a condition,
--- the bound of the query moves with its number as fast as the dual says
+-- a bound of a problem, by its multiplier, which isn't 0, in a dual with this top. Where neither it nor the query has a
+-- condition, the bound of the query moves with its number as fast as the dual says
 abbrev pub supporting : BoundSide → stored.Query → Option BoundIn → BoundPlace → ℕ → ℤ × ℤ → Supporting
 supporting side q bound place line y = record {
   sentence = place.sentence;
   line = line;
   end = place.end;
   rate = rate_of side (size_of y.0 (unit_of bound)) y.1;
-  hundredth = if is_none q.given && not (has_condition bound) then Some (hundredth_of side (size_of y.0 (unit_of bound)) y.1) else None;
+  hundredth = hundredth_where (is_free q bound) side (size_of y.0 (unit_of bound)) y.1;
   weight = unsigned_abs (size_of y.0 (unit_of bound));
 }
+
+-- the same of the bound at a place of the problem
+abbrev pub told_at : Parts → BoundSide → stored.Query → List ℕ → ℕ → BoundPlace → ℤ × ℤ → Supporting
+told_at p side q lines i place y = supporting side q (slice_get (bounds_in p.sentences) i) place (line_in lines place.sentence) y
 
 -- the same at a place, where there is one and the multiplier isn't 0
 abbrev pub support_by : BoundSide → stored.Query → Option BoundIn → Option BoundPlace → List ℕ → ℤ × ℤ → Option Supporting
@@ -106,13 +115,17 @@ support_by side q bound (Some place) lines y =
     if is_other y.0 then Some (supporting side q bound place (line_in lines place.sentence) y) else None
 
 unfoldable pub support_at : Parts → BoundSide → stored.Query → Dual → List ℕ → ℕ → Option Supporting
-support_at p side q d lines i = support_by side q (slice_get (bounds_in p.sentences) i) (slice_get (places_in 1 p.sentences) i) lines
+support_at p side q d lines i =
+    support_by side q (slice_get (bounds_in p.sentences) i) (slice_get (places_in 1 p.sentences) i) lines
     (get_or d.rows i (pos 0), d.top)
+
+abbrev pub noted : Parts → BoundSide → stored.Query → Dual → List ℕ → ℕ → List Supporting
+noted p side q d lines i = option_to_list (support_at p side q d lines i)
 
 -- those of the first bounds, so many
 abbrev pub supports_to : Parts → BoundSide → stored.Query → Dual → List ℕ → ℕ → List Supporting
 supports_to p side q d lines zero = []
-supports_to p side q d lines (suc n) = supports_to p side q d lines n ++ option_to_list (support_at p side q d lines n)
+supports_to p side q d lines (suc n) = supports_to p side q d lines n ++ noted p side q d lines n
 
 -- those of all bounds, in the order of the problem
 abbrev pub supports_in : Parts → BoundSide → stored.Query → Dual → List ℕ → List Supporting
@@ -126,3 +139,11 @@ numbers_of ss = map (λ s. s.sentence) ss
 -- they are sorted by weight, the greatest first
 abbrev pub FallByWeight : List Supporting → Type 0
 FallByWeight ss = IsSortedByKey (λ s. s.weight) (λ a b. nat_cmp b a) ss
+
+-- the bound that is told rests on the sentences that are named with it
+abbrev pub IsSupport : Parts → stored.Query → BoundSide → Support → Type 0
+IsSupport p q side s = RestsOn p (query_of p.nodes q) (side_of side) s.value (numbers_of s.sentences)
+
+-- all bounds with a multiplier other than 0 are told
+abbrev pub NamesAll : Parts → BoundSide → stored.Query → Dual → List ℕ → Support → Type 0
+NamesAll p side q d lines s = IsPermutation (supports_in p side q d lines) s.sentences

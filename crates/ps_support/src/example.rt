@@ -2,8 +2,8 @@
 ghost use Rattle.std.specs.Prelude.{◌≡◌, ◌++◌, ◌∷◌, [], IfOk, OnOk, map, pos, ◌<ℤ◌};
 ghost use Rattle.std.specs.List.Sorted.{IsPermutation};
 ghost use Rattle.ps_meaning.specs.Wide.{Fits};
-ghost use Rattle.ps_support.specs.Examples.{AreWeights, FallByWeight, HasTotal, likely_of};
-ghost use Rattle.ps_support.specs.Examples.{true_from};
+ghost use Rattle.ps_support.specs.Examples.{AreWeights, FallByWeight, HasTotal, HasWorlds};
+ghost use Rattle.ps_support.specs.Examples.{likely_of, true_from};
 
 use ps_answer::{Model, Weighted};
 use ps_formula::World;
@@ -68,6 +68,23 @@ fn likely_in(alloc: Global, total: i128, weighted: &Weighted) -> Result<Likely, 
     })
 }
 
+// Notes a world of a distribution of this total.
+fn push_likely(
+    alloc: Global,
+    worlds: &mut Vec<Likely>,
+    total: i128,
+    weighted: &Weighted,
+) -> Result<(), NoMemory>
+    requires total { pos 0 <ℤ total }
+    requires weight { Fits weighted.now.weight }
+    ensures { OnOk result
+        (worlds.new.items ≡ worlds.old.items ++ likely_of total weighted.now ∷ []) }
+{
+    let likely = likely_in(alloc, total, weighted)?;
+    worlds.push(likely)?;
+    Ok(())
+}
+
 // The worlds of a distribution in their order.
 fn all_likely(alloc: Global, model: &Model) -> Result<Vec<Likely>, NoMemory>
     requires total { HasTotal model.now }
@@ -75,10 +92,21 @@ fn all_likely(alloc: Global, model: &Model) -> Result<Vec<Likely>, NoMemory>
     ensures { IfOk result (λ v. v.items ≡ map (likely_of model.now.total) model.now.worlds) }
 {
     let mut worlds = Vec::new(alloc);
-    for weighted in model.worlds.as_slice() {
-        worlds.push(likely_in(alloc, model.total, weighted)?)?;
+    let all = model.worlds.as_slice();
+    for weighted in all {
+        push_likely(alloc, &mut worlds, model.total, weighted)?;
     }
     Ok(worlds)
+}
+
+// The same worlds, those of the greatest weight first.
+fn in_order(worlds: Vec<Likely>) -> Result<List<Likely>, NoMemory>
+    ensures moved { IfOk result (λ ws. IsPermutation worlds.items ws) }
+    ensures order { IfOk result FallByWeight }
+{
+    let mut sorted = worlds;
+    sorted.sort_by_key(|world| Reverse(world.weight))?;
+    Ok(List::from_vec(sorted))
 }
 
 /// The distribution that reaches a value, its most probable worlds first.
@@ -86,14 +114,13 @@ pub fn example_of(alloc: Global, value: &Fraction, model: &Model) -> Result<Exam
     requires total { HasTotal model.now }
     requires weights { AreWeights model.now }
     ensures value { IfOk result (λ e. e.value ≡ value.now) }
-    ensures worlds { IfOk result (λ e.
-        IsPermutation (map (likely_of model.now.total) model.now.worlds) e.worlds) }
+    ensures worlds { IfOk result (HasWorlds model.now) }
     ensures order { IfOk result (λ e. FallByWeight e.worlds) }
 {
-    let mut worlds = all_likely(alloc, model)?;
-    worlds.sort_by_key(|world| Reverse(world.weight))?;
+    let all = all_likely(alloc, model)?;
+    let worlds = in_order(all)?;
     Ok(Example {
         value: *value,
-        worlds: List::from_vec(worlds),
+        worlds,
     })
 }

@@ -3,7 +3,8 @@ ghost use Rattle.std.specs.Prelude.{◌≡◌, ◌≤◌, ◌*◌, ◌≤ℤ◌,
 ghost use Rattle.ps_meaning.specs.declared.limits.TheConstants.{PRINTED_LIMIT};
 ghost use Rattle.ps_problem.specs.declared.limits.TheConstants.{GREATEST_SCALE};
 ghost use Rattle.ps_claims.specs.Certificates.{IsMultiplier};
-ghost use Rattle.ps_support.specs.Rates.{hundredth_of, rate_of, size_of, towards};
+ghost use Rattle.ps_support.specs.Rates.{hundredth_of, hundredth_where, rate_of, size_of};
+ghost use Rattle.ps_support.specs.Rates.{towards};
 
 use crate::bound_side::BoundSide;
 use ps_frac::Fraction;
@@ -39,12 +40,30 @@ pub(crate) fn rate_of(side: BoundSide, size: i128, top: i128) -> Fraction
     Fraction::new(towards(side, size), top)
 }
 
-/// How far it moves where that number rises by a hundredth.
-pub(crate) fn hundredth_of(side: BoundSide, size: i128, top: i128) -> Fraction
+// How far it moves where that number rises by a hundredth.
+fn hundredth_of(side: BoundSide, size: i128, top: i128) -> Fraction
     requires size { unsigned_abs size ≤ PRINTED_LIMIT * GREATEST_SCALE }
     requires top { pos 1 ≤ℤ top }
     requires small { IsMultiplier top }
     ensures { result ≡ hundredth_of side size top }
 {
     Fraction::new(towards(side, size), top * 100)
+}
+
+/// The same where that is wanted.
+pub(crate) fn hundredth_where(
+    is_wanted: bool,
+    side: BoundSide,
+    size: i128,
+    top: i128,
+) -> Option<Fraction>
+    requires size { unsigned_abs size ≤ PRINTED_LIMIT * GREATEST_SCALE }
+    requires top { pos 1 ≤ℤ top }
+    requires small { IsMultiplier top }
+    ensures { result ≡ hundredth_where is_wanted side size top }
+{
+    if is_wanted {
+        return Some(hundredth_of(side, size, top));
+    }
+    None
 }

@@ -1,16 +1,18 @@
 //! On which sentences a bound rests.
-ghost use Rattle.std.specs.Prelude.{◌≡◌, ◌<◌, ◌≤ℤ◌, ◌++◌, IfOk, OnOk, length, option_to_list, pos, slice_get};
+ghost use Rattle.std.specs.Prelude.{◌≡◌, ◌<◌, ◌≤◌, ◌≤ℤ◌, ◌++◌, IfOk, OnOk, Some, get_or, length};
+ghost use Rattle.std.specs.Prelude.{pos, slice_get};
 ghost use Rattle.std.specs.List.Sorted.{IsPermutation};
+ghost use Rattle.ps_problem.specs.declared.limits.TheConstants.{GREATEST_SCALE};
 ghost use Rattle.ps_problem.specs.Problems.{HasNodes, bounds_in};
-ghost use Rattle.ps_claims.specs.Certificates.{IsSmallDual};
-ghost use Rattle.ps_claims.specs.Validity.{query_of};
+ghost use Rattle.ps_claims.specs.Certificates.{IsMultiplier, IsSmallDual};
 ghost use Rattle.ps_support.specs.Places.{places_in};
-ghost use Rattle.ps_support.specs.Supports.{FallByWeight, IsShownBy, RestsOn, has_condition, line_in};
-ghost use Rattle.ps_support.specs.Supports.{numbers_of, side_of, support_at, supports_in};
+ghost use Rattle.ps_support.specs.Supports.{FallByWeight, IsShownBy, IsSupport, NamesAll};
+ghost use Rattle.ps_support.specs.Supports.{has_condition, is_free, line_in, noted};
+ghost use Rattle.ps_support.specs.Supports.{supports_in, told_at, unit_of};
 
 use crate::bound_side::BoundSide;
 use crate::places::{BoundPlace, End, bound_places};
-use crate::rates::{hundredth_of, rate_of, size_of};
+use crate::rates::{hundredth_where, rate_of, size_of};
 use ps_answer::Dual;
 use ps_frac::Fraction;
 use ps_io::{List, NoMemory};
@@ -19,7 +21,7 @@ use std::alloc::Global;
 use std::cmp::Reverse;
 
 /// A bound of a sentence on which a bound of a query rests.
-#[derive(Clone, Copy, PartialEq, Debug, Drop)]
+#[derive(Drop)]
 pub struct Supporting {
     /// The number of the sentence, from 1.
     pub sentence: u32,
@@ -58,6 +60,17 @@ fn has_condition(problem: &Problem, i: usize) -> bool
     }
 }
 
+// Whether neither the query nor the sentence of the bound at a place has a condition.
+fn is_free(problem: &Problem, query: Query, i: usize) -> bool
+    requires { i < length (bounds_in problem.now.sentences) }
+    ensures { result ≡ is_free query (slice_get (bounds_in problem.now.sentences) i) }
+{
+    if query.given.is_some() {
+        return false;
+    }
+    !has_condition(problem, i)
+}
+
 // The line on which the sentence of a number begins, from 1; 0 where it isn't told.
 fn line_in(lines: &[u32], sentence: u32) -> u32
     ensures { result ≡ line_in lines.now sentence }
@@ -66,45 +79,73 @@ fn line_in(lines: &[u32], sentence: u32) -> u32
     lines.get(place).copied().unwrap_or(0)
 }
 
-// The bound at a place, where its multiplier isn't 0.
-#[tactic(auto, using(crate::proofs::Found::is_support, crate::proofs::Found::is_none, crate::proofs::Found::place_inside, crate::proofs::Found::row_inside))]
-fn supporting_at(
+// What the number of the bound at a place counts in.
+#[tactic(auto, using(crate::proofs::Found::row_inside, crate::proofs::Found::unit_there))]
+fn unit_at(problem: &Problem, i: usize) -> u32
+    requires { i < length (bounds_in problem.now.sentences) }
+    ensures value { result ≡ unit_of (slice_get (bounds_in problem.now.sentences) i) }
+    ensures small { result ≤ GREATEST_SCALE }
+{
+    problem.rows()[i].unit
+}
+
+// The number at a place of these.
+#[tactic(auto, using(crate::proofs::Found::read_at))]
+fn number_at(numbers: &[i128], i: usize) -> i128
+    requires { i < length numbers.now }
+    ensures { result ≡ get_or numbers.now i (pos 0) }
+{
+    numbers[i]
+}
+
+// The multiplier of the bound at a place.
+fn multiplier_at(dual: &Dual, i: usize) -> i128
+    requires { i < length dual.now.rows }
+    ensures { result ≡ get_or dual.now.rows i (pos 0) }
+{
+    number_at(dual.rows.as_slice(), i)
+}
+
+// A place of these.
+#[tactic(auto, using(crate::proofs::Found::got, crate::proofs::Found::got_or))]
+fn place_at(places: &[BoundPlace], i: usize) -> BoundPlace
+    requires { i < length places.now }
+    ensures { slice_get places.now i ≡ Some result }
+{
+    places[i]
+}
+
+// What is told of the bound at a place, by its multiplier and the dual's top.
+fn supporting_of(
     problem: &Problem,
     side: BoundSide,
     query: Query,
-    dual: &Dual,
     lines: &[u32],
-    places: &[BoundPlace],
     i: usize,
-) -> Option<Supporting>
-    requires places { places.now ≡ places_in 1 problem.now.sentences }
+    place: BoundPlace,
+    multiplier: i128,
+    top: i128,
+) -> Supporting
     requires inside { i < length (bounds_in problem.now.sentences) }
-    requires rows { length dual.now.rows ≡ length (bounds_in problem.now.sentences) }
-    requires small { IsSmallDual dual.now }
-    requires top { pos 1 ≤ℤ dual.now.top }
-    ensures { result ≡ support_at problem.now side query dual.now lines.now i }
+    requires small { IsMultiplier multiplier }
+    requires top { pos 1 ≤ℤ top }
+    requires small_top { IsMultiplier top }
+    ensures { result ≡ told_at problem.now side query lines.now i place (multiplier, top) }
 {
-    let multiplier = dual.rows.as_slice()[i];
-    if multiplier == 0 {
-        return None;
-    }
-    let size = size_of(multiplier, problem.rows()[i].unit);
-    let is_free = query.given.is_none() && !has_condition(problem, i);
-    Some(Supporting {
-        sentence: places[i].sentence,
-        line: line_in(lines, places[i].sentence),
-        end: places[i].end,
-        rate: rate_of(side, size, dual.top),
-        hundredth: if is_free {
-            Some(hundredth_of(side, size, dual.top))
-        } else {
-            None
-        },
+    let size = size_of(multiplier, unit_at(problem, i));
+    let is_free = is_free(problem, query, i);
+    Supporting {
+        sentence: place.sentence,
+        line: line_in(lines, place.sentence),
+        end: place.end,
+        rate: rate_of(side, size, top),
+        hundredth: hundredth_where(is_free, side, size, top),
         weight: size.unsigned_abs(),
-    })
+    }
 }
 
 // Notes the bound at a place, where its multiplier isn't 0.
+#[tactic(auto, using(crate::proofs::Found::place_inside))]
 fn note_supporting(
     found: &mut List<Supporting>,
     problem: &Problem,
@@ -121,16 +162,43 @@ fn note_supporting(
     requires small { IsSmallDual dual.now }
     requires top { pos 1 ≤ℤ dual.now.top }
     ensures { OnOk result (found.new
-        ≡ found.old ++ option_to_list (support_at problem.now side query dual.now lines.now i)) }
+        ≡ found.old ++ noted problem.now side query dual.now lines.now i) }
 {
-    match supporting_at(problem, side, query, dual, lines, places, i) {
-        Some(one) => found.push(one),
-        None => Ok(()),
+    let multiplier = multiplier_at(dual, i);
+    if multiplier == 0 {
+        return Ok(());
     }
+    let place = place_at(places, i);
+    let one = supporting_of(problem, side, query, lines, i, place, multiplier, dual.top);
+    found.push(one)
+}
+
+// The bounds whose multipliers aren't 0, in the order of the problem, by the places of all bounds.
+#[tactic(auto, using(crate::proofs::Found::none_found))]
+fn supporting_by(
+    alloc: Global,
+    problem: &Problem,
+    side: BoundSide,
+    query: Query,
+    dual: &Dual,
+    lines: &[u32],
+    places: &[BoundPlace],
+) -> Result<List<Supporting>, NoMemory>
+    requires places { places.now ≡ places_in 1 problem.now.sentences }
+    requires rows { length dual.now.rows ≡ length (bounds_in problem.now.sentences) }
+    requires small { IsSmallDual dual.now }
+    requires top { pos 1 ≤ℤ dual.now.top }
+    ensures { IfOk result (λ ss. ss ≡ supports_in problem.now side query dual.now lines.now) }
+{
+    let mut found = List::new(alloc);
+    for i in 0..places.len() {
+        note_supporting(&mut found, problem, side, query, dual, lines, places, i)?;
+    }
+    Ok(found)
 }
 
 // The bounds whose multipliers aren't 0, in the order of the problem.
-#[tactic(auto, using(crate::proofs::Found::none_found, crate::proofs::Found::next_found, crate::proofs::Found::all_found, crate::proofs::Found::bound_inside, crate::proofs::Found::past_bounds, crate::proofs::Owned::sentences_within))]
+#[tactic(auto, using(crate::proofs::Owned::sentences_within))]
 fn all_supporting(
     alloc: Global,
     problem: &Problem,
@@ -147,17 +215,21 @@ fn all_supporting(
     // Called for its clauses: the problem is in order.
     let _sound = problem.rows();
     let places = bound_places(alloc, problem.sentences().as_slice())?;
-    let places = places.as_slice();
-    let mut found = List::new(alloc);
-    for i in 0..places.len() {
-        note_supporting(&mut found, problem, side, query, dual, lines, places, i)?;
-    }
-    Ok(found)
+    supporting_by(alloc, problem, side, query, dual, lines, places.as_slice())
+}
+
+// The same bounds, those of the greatest weight first.
+fn in_order(found: List<Supporting>) -> Result<List<Supporting>, NoMemory>
+    ensures moved { IfOk result (λ ss. IsPermutation found ss) }
+    ensures order { IfOk result FallByWeight }
+{
+    let mut sorted = found.into_vec();
+    sorted.sort_by_key(|one| Reverse(one.weight))?;
+    Ok(List::from_vec(sorted))
 }
 
 /// The sentences on which a bound of a query rests, by the dual that shows it: those with a bound
 /// whose multiplier isn't 0, the one of the greatest weight first, each with its line.
-#[tactic(auto, using(crate::proofs::Resting::rests, crate::proofs::Resting::rows_as_bounds))]
 pub fn support_of(
     alloc: Global,
     problem: &Problem,
@@ -172,22 +244,20 @@ pub fn support_of(
     requires small { IsSmallDual dual.now }
 
     // The bound holds in every distribution that meets these sentences alone.
-    ensures rests { IfOk result (λ s.
-        RestsOn problem.now (query_of problem.now.nodes query) (side_of side) s.value
-        (numbers_of s.sentences)) }
+    ensures rests { IfOk result (IsSupport problem.now query side) }
 
     // They are those with a multiplier other than 0, and none of less weight stands before another.
     ensures value { IfOk result (λ s. s.value ≡ value.now) }
-    ensures sentences { IfOk result (λ s.
-        IsPermutation (supports_in problem.now side query dual.now lines.now) s.sentences) }
+    ensures sentences { IfOk result
+        (NamesAll problem.now side query dual.now lines.now) }
     ensures order { IfOk result (λ s. FallByWeight s.sentences) }
 {
     // Called for its clauses: the problem is in order.
     let _sound = problem.rows();
-    let mut sentences = all_supporting(alloc, problem, side, query, dual, lines)?.into_vec();
-    sentences.sort_by_key(|one| Reverse(one.weight))?;
+    let found = all_supporting(alloc, problem, side, query, dual, lines)?;
+    let sentences = in_order(found)?;
     Ok(Support {
         value: *value,
-        sentences: List::from_vec(sentences),
+        sentences,
     })
 }
