@@ -103,13 +103,13 @@ module _ (p : Parts) (side : BoundSide) (q : stored.Query) (d : Dual) (lines : L
       ap (λ (x : ℤ). support_by side q bound (slice_get (places_in 1 p.sentences) i) lines (x, d.top)) (sym is)
       ∙ by-place (slice_get (places_in 1 p.sentences) i) bound place (y, d.top) stands (other-of y other)
 
-  pub one_noted : {T E : Type 0} (r : Result T E) (i : ℕ) (places : List BoundPlace) (place : BoundPlace) (y : ℤ) (one : Supporting) → places ≡ places_in 1 p.sentences
+  pub one_noted : {T E : Type 0} (r : Result T E) (i : ℕ) (places : List BoundPlace) (place : BoundPlace) (y : ℤ) → places ≡ places_in 1 p.sentences
       → slice_get places i ≡ Some place → y ≡ get_or d.rows i (pos 0) → (y ≡ pos 0 → ⊥)
-      → one ≡ supporting side q (slice_get (bounds_in p.sentences) i) place (line_in lines place.sentence) (y, d.top)
-      → (old new : List Supporting) → OnOk r (new ≡ old ++ one ∷ []) → OnOk r (new ≡ old ++ option_to_list (support_at p side q d lines i))
-  one_noted (Ok x) i places place y one e there is other told old new h =
-      h ∙ ap (λ (s : Supporting). old ++ s ∷ []) told ∙ ap (λ (o : Option Supporting). old ++ option_to_list o) (sym (at-place i places place y e there is other))
-  one_noted (Err x) i places place y one e there is other told old new h = tt
+      → (old new : List Supporting) → OnOk r (new ≡ old ++ supporting side q (slice_get (bounds_in p.sentences) i) place (line_in lines place.sentence) (y, d.top) ∷ [])
+      → OnOk r (new ≡ old ++ option_to_list (support_at p side q d lines i))
+  one_noted (Ok x) i places place y e there is other old new h =
+      h ∙ ap (λ (o : Option Supporting). old ++ option_to_list o) (sym (at-place i places place y e there is other))
+  one_noted (Err x) i places place y e there is other old new h = tt
 
 -- what is told of a bound, by its parts
 abbrev in-parts : BoundPlace → ℕ → ℕ → Rational → Option Rational → Supporting

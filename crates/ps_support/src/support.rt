@@ -1,6 +1,6 @@
 //! On which sentences a bound rests.
 ghost use Rattle.std.specs.Prelude.{◌≡◌, ◌<◌, ◌≤◌, ◌≤ℤ◌, ◌++◌, IfOk, OnOk, Some, get_or, length};
-ghost use Rattle.std.specs.Prelude.{pos, slice_get};
+ghost use Rattle.std.specs.Prelude.{◌∷◌, [], pos, slice_get};
 ghost use Rattle.std.specs.List.Sorted.{IsPermutation};
 ghost use Rattle.ps_problem.specs.declared.limits.TheConstants.{GREATEST_SCALE};
 ghost use Rattle.ps_problem.specs.Problems.{HasNodes, bounds_in};
@@ -115,8 +115,9 @@ fn place_at(places: &[BoundPlace], i: usize) -> BoundPlace
     places[i]
 }
 
-// What is told of the bound at a place, by its multiplier and the dual's top.
-fn supporting_of(
+// Notes what is told of the bound at a place, by its multiplier and the dual's top.
+fn push_supporting(
+    found: &mut Vec<Supporting>,
     problem: &Problem,
     side: BoundSide,
     query: Query,
@@ -125,29 +126,32 @@ fn supporting_of(
     place: BoundPlace,
     multiplier: i128,
     top: i128,
-) -> Supporting
+) -> Result<(), NoMemory>
     requires inside { i < length (bounds_in problem.now.sentences) }
     requires small { IsMultiplier multiplier }
     requires top { pos 1 ≤ℤ top }
     requires small_top { IsMultiplier top }
-    ensures { result ≡ told_at problem.now side query lines.now i place (multiplier, top) }
+    ensures { OnOk result (found.new.items ≡ found.old.items
+        ++ told_at problem.now side query lines.now i place (multiplier, top) ∷ []) }
 {
     let size = size_of(multiplier, unit_at(problem, i));
-    let is_free = is_free(problem, query, i);
-    Supporting {
+    let rate = rate_of(side, size, top);
+    let hundredth = hundredth_where(is_free(problem, query, i), side, size, top);
+    found.push(Supporting {
         sentence: place.sentence,
         line: line_in(lines, place.sentence),
         end: place.end,
-        rate: rate_of(side, size, top),
-        hundredth: hundredth_where(is_free, side, size, top),
+        rate,
+        hundredth,
         weight: size.unsigned_abs(),
-    }
+    })?;
+    Ok(())
 }
 
 // Notes the bound at a place, where its multiplier isn't 0.
 #[tactic(auto, using(crate::proofs::Found::place_inside))]
 fn note_supporting(
-    found: &mut List<Supporting>,
+    found: &mut Vec<Supporting>,
     problem: &Problem,
     side: BoundSide,
     query: Query,
@@ -161,16 +165,17 @@ fn note_supporting(
     requires rows { length dual.now.rows ≡ length (bounds_in problem.now.sentences) }
     requires small { IsSmallDual dual.now }
     requires top { pos 1 ≤ℤ dual.now.top }
-    ensures { OnOk result (found.new
-        ≡ found.old ++ noted problem.now side query dual.now lines.now i) }
+    ensures { OnOk result (found.new.items
+        ≡ found.old.items ++ noted problem.now side query dual.now lines.now i) }
 {
     let multiplier = multiplier_at(dual, i);
     if multiplier == 0 {
         return Ok(());
     }
     let place = place_at(places, i);
-    let one = supporting_of(problem, side, query, lines, i, place, multiplier, dual.top);
-    found.push(one)
+    push_supporting(
+        found, problem, side, query, lines, i, place, multiplier, dual.top,
+    )
 }
 
 // The bounds whose multipliers aren't 0, in the order of the problem, by the places of all bounds.
@@ -183,14 +188,15 @@ fn supporting_by(
     dual: &Dual,
     lines: &[u32],
     places: &[BoundPlace],
-) -> Result<List<Supporting>, NoMemory>
+) -> Result<Vec<Supporting>, NoMemory>
     requires places { places.now ≡ places_in 1 problem.now.sentences }
     requires rows { length dual.now.rows ≡ length (bounds_in problem.now.sentences) }
     requires small { IsSmallDual dual.now }
     requires top { pos 1 ≤ℤ dual.now.top }
-    ensures { IfOk result (λ ss. ss ≡ supports_in problem.now side query dual.now lines.now) }
+    ensures { IfOk result (λ v. v.items
+        ≡ supports_in problem.now side query dual.now lines.now) }
 {
-    let mut found = List::new(alloc);
+    let mut found = Vec::new(alloc);
     for i in 0..places.len() {
         note_supporting(&mut found, problem, side, query, dual, lines, places, i)?;
     }
@@ -206,11 +212,12 @@ fn all_supporting(
     query: Query,
     dual: &Dual,
     lines: &[u32],
-) -> Result<List<Supporting>, NoMemory>
+) -> Result<Vec<Supporting>, NoMemory>
     requires rows { length dual.now.rows ≡ length (bounds_in problem.now.sentences) }
     requires small { IsSmallDual dual.now }
     requires top { pos 1 ≤ℤ dual.now.top }
-    ensures { IfOk result (λ ss. ss ≡ supports_in problem.now side query dual.now lines.now) }
+    ensures { IfOk result (λ v. v.items
+        ≡ supports_in problem.now side query dual.now lines.now) }
 {
     // Called for its clauses: the problem is in order.
     let _sound = problem.rows();
@@ -219,11 +226,11 @@ fn all_supporting(
 }
 
 // The same bounds, those of the greatest weight first.
-fn in_order(found: List<Supporting>) -> Result<List<Supporting>, NoMemory>
-    ensures moved { IfOk result (λ ss. IsPermutation found ss) }
+fn in_order(found: Vec<Supporting>) -> Result<List<Supporting>, NoMemory>
+    ensures moved { IfOk result (λ ss. IsPermutation found.items ss) }
     ensures order { IfOk result FallByWeight }
 {
-    let mut sorted = found.into_vec();
+    let mut sorted = found;
     sorted.sort_by_key(|one| Reverse(one.weight))?;
     Ok(List::from_vec(sorted))
 }

@@ -3,7 +3,7 @@ use Rattle.std.proofs.lemmas.Fn.{always_returns_same}
 use Rattle.ps_support.proofs.support.in_order.Goals as goal
 
 pub returns-clause-moved : goal.returns-clause-moved
-returns-clause-moved c = rw (c.from_vec.ensures, ← c.into_vec-sorted.ensures) c.in_ok-sort_by_key.ensures.permutation
+returns-clause-moved c = rw c.from_vec.ensures c.in_ok-sort_by_key.ensures.permutation
 
 pub returns-clause-order : goal.returns-clause-order
 returns-clause-order c =

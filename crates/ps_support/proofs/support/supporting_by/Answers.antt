@@ -6,10 +6,10 @@ note_supporting-requires-clause-inside c = bound_inside c.args.problem.now.sente
 
 pub loop-i-preserved : goal.loop-i-preserved
 loop-i-preserved c =
-    next_found c.args.problem.now c.args.side c.args.query c.args.dual.now c.args.lines.now c.loop-i.i c.loop-i.found c.note_supporting.new.found
+    next_found c.args.problem.now c.args.side c.args.query c.args.dual.now c.args.lines.now c.loop-i.i c.loop-i.found.items c.note_supporting.new.found.items
     (bound_inside c.args.problem.now.sentences c.args.places.now c.loop-i.i c.requires.places c.loop-i-test.true) c.in_ok-note_supporting.ensures c.loop-i.invariant
 
 pub returns : goal.returns
 returns c =
-    all_found c.args.problem.now c.args.side c.args.query c.args.dual.now c.args.lines.now c.loop-i.i c.loop-i.found
+    all_found c.args.problem.now c.args.side c.args.query c.args.dual.now c.args.lines.now c.loop-i.i c.loop-i.found.items
     (past_bounds c.args.problem.now.sentences c.args.places.now c.loop-i.i c.requires.places c.loop-i-test.false) c.loop-i.invariant
