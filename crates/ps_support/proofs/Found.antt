@@ -1,5 +1,5 @@
 -- The bounds whose multipliers aren't 0, one after the other.
-use Rattle.std.proofs.Common.{◌≡◌, ◌≤◌, ◌<◌, ◌+◌, ◌∙◌, ℕ, zero, suc, ℤ, pos, negsuc, Bool, true, false, cond, List, [], ◌∷◌, ◌++◌, map, Option, Some, None, Result, Ok, Err, OnOk, length, get_or, refl, sym, ap, subst, append-nil, arith}
+use Rattle.std.proofs.Common.{◌≡◌, ◌≤◌, ◌<◌, ◌+◌, ◌∙◌, ℕ, zero, suc, ℤ, pos, negsuc, Bool, true, false, List, [], ◌∷◌, ◌++◌, map, Option, Some, None, Result, Ok, Err, OnOk, length, get_or, refl, sym, ap, subst, append-nil, arith}
 use Rattle.std.specs.Prelude.{option_to_list, slice_get, unsigned_abs}
 use Rattle.ps_meaning.specs.Rational.{Rational}
 use Rattle.std.proofs.lemmas.List.{length-map}

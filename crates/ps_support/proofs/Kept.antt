@@ -1,14 +1,13 @@
 -- Multipliers that are 0 drop out of the sum of a dual.
-use Rattle.std.proofs.Common.{◌≡◌, ℕ, zero, suc, ℤ, pos, negsuc, ◌+ℤ◌, ◌*ℤ◌, ◌≤ℤ◌, Bool, true, false, List, [], ◌∷◌, map, refl, sym, ap, subst, arith}
+use Rattle.std.proofs.Common.{◌≡◌, ℕ, zero, suc, ℤ, pos, negsuc, ◌+ℤ◌, ◌*ℤ◌, Bool, true, false, List, [], ◌∷◌, map, refl, ap, arith}
 use Rattle.std.proofs.lemmas.Int.{ints}
 use Rattle.std.proofs.Math.IntN.{zero-*ℤ}
-use Rattle.std.specs.List.{AllZip}
 use Rattle.ps_meaning.specs.Formula.{World}
 use Rattle.ps_meaning.specs.Bounds.{Bound}
 use Rattle.ps_meaning.specs.Rows.{Row, row_in}
 use Rattle.ps_meaning.specs.Rational.{Rational}
 use Rattle.ps_claims.specs.Queries.{Query, Holds}
-use Rattle.ps_claims.specs.Duals.{Dual, HasSign, HaveSigns, HasValueHead, AreZeroElsewhere, IsNeverAbove, claimed_in, combination, kept_of, sum_of_rows}
+use Rattle.ps_claims.specs.Duals.{Dual, HaveSigns, HasValueHead, AreZeroElsewhere, IsNeverAbove, claimed_in, combination, kept_of, sum_of_rows}
 use Rattle.ps_claims.specs.declared.claim_kind.ClaimKind.{ClaimKind}
 use Rattle.ps_claims.specs.declared.claim_kind.ClaimKind.TheVariants as claimed
 use Rattle.ps_claims.specs.Rows.{AreRowsOf}

@@ -10,11 +10,10 @@ use Rattle.std.proofs.lemmas.Slice.Zip.{AllZip-long}
 use Rattle.ps_meaning.specs.Distribution.{Entry}
 use Rattle.ps_meaning.specs.Bounds.{Bound, MeetsAll, MeetsBound}
 use Rattle.ps_meaning.specs.Rational.{Rational}
-use Rattle.ps_formula.specs.declared.node.Node.{Node}
 use Rattle.ps_problem.specs.declared.query.Query as stored
 use Rattle.ps_problem.specs.Problems.{Parts, AreParts, BoundIn, HasNodes, bound_of, bounds_in, bounds_of}
 use Rattle.ps_answer.specs.declared.answer.Dual.{Dual}
-use Rattle.ps_claims.specs.Duals.{HaveSigns, HasSign, kept_of}
+use Rattle.ps_claims.specs.Duals.{HasSign, kept_of}
 use Rattle.ps_claims.specs.Certificates.{dual_of}
 use Rattle.ps_claims.specs.Queries.{Holds}
 use Rattle.ps_claims.specs.Rows.{problem_rows}

@@ -1,5 +1,5 @@
 -- The worlds of a distribution, by the atoms that are true in them.
-use Rattle.std.specs.Prelude.{ℕ, suc, ℤ, pos, ◌<ℤ◌, unsigned_abs, Bool, true, false, List, [], ◌∷◌, map, All}
+use Rattle.std.specs.Prelude.{ℕ, suc, ℤ, pos, ◌<ℤ◌, unsigned_abs, true, false, List, [], ◌∷◌, map, All}
 use Rattle.std.specs.List.Sorted.{IsPermutation, IsSortedByKey}
 use Rattle.std.specs.Ordering.{int_cmp}
 use Rattle.ps_meaning.specs.Formula.{World}

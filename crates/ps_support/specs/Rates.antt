@@ -1,5 +1,5 @@
 -- How fast a bound moves with a number of a sentence, by a dual.
-use Rattle.std.specs.Prelude.{ℕ, ℤ, pos, neg_ℤ, ◌*ℤ◌, ◌*◌, unsigned_abs, Bool, Option, Some, None, if◌then◌else◌}
+use Rattle.std.specs.Prelude.{ℕ, ℤ, pos, neg_ℤ, ◌*ℤ◌, unsigned_abs, Bool, Option, Some, None, if◌then◌else◌}
 use Rattle.ps_meaning.specs.Rational.{Rational, fraction}
 use Rattle.ps_support.specs.declared.bound_side.BoundSide.{BoundSide}
 use Rattle.ps_support.specs.declared.bound_side.BoundSide.TheVariants.{Lower, Upper}
