@@ -16,7 +16,7 @@ use Rattle.ps_support.specs.declared.places.BoundPlace.{BoundPlace}
 use Rattle.ps_support.specs.declared.support.Supporting.{Supporting}
 use Rattle.ps_support.specs.Places.{places_in}
 use Rattle.ps_support.specs.Rates.{hundredth_where, rate_of, size_of}
-use Rattle.ps_support.specs.Supports.{is_free, is_other, line_in, support_at, support_by, supporting, supports_in, supports_to, unit_of}
+use Rattle.ps_support.specs.Supports.{is_free, is_other, line_in, support_at, support_by, supporting, supports_in, supports_to, told, unit_of}
 use Rattle.ps_support.proofs.Owned.{IsOwned, owned}
 
 -- ---- places and rows
@@ -94,21 +94,18 @@ module _ (p : Parts) (side : BoundSide) (q : stored.Query) (d : Dual) (lines : L
       no-support (slice_get (places_in 1 p.sentences) i) (slice_get (bounds_in p.sentences) i) (get_or d.rows i (pos 0), d.top) (same-of (get_or d.rows i (pos 0)) (sym is ∙ e)) in
       sym (append-nil old) ∙ ap (λ (o : Option Supporting). old ++ option_to_list o) (sym none)
 
-  at-place : (i : ℕ) (places : List BoundPlace) (place : BoundPlace) (y : ℤ) → places ≡ places_in 1 p.sentences → slice_get places i ≡ Some place → y ≡ get_or d.rows i (pos 0) → (y ≡ pos 0 → ⊥)
-      → support_at p side q d lines i ≡ Some (supporting side q (slice_get (bounds_in p.sentences) i) place (line_in lines place.sentence) (y, d.top))
+  at-place : (i : ℕ) (places : List BoundPlace) (place : BoundPlace) → places ≡ places_in 1 p.sentences → slice_get places i ≡ Some place → is_other (get_or d.rows i (pos 0)) ≡ true
+      → support_at p side q d lines i ≡ Some (supporting side q (slice_get (bounds_in p.sentences) i) place (line_in lines place.sentence) (get_or d.rows i (pos 0), d.top))
   unfolding support_at
-  at-place i places place y e there is other =
-      let bound = slice_get (bounds_in p.sentences) i in
+  at-place i places place e there other =
       let stands : slice_get (places_in 1 p.sentences) i ≡ Some place = subst (λ (ps : List BoundPlace). slice_get ps i ≡ Some place) e there in
-      ap (λ (x : ℤ). support_by side q bound (slice_get (places_in 1 p.sentences) i) lines (x, d.top)) (sym is)
-      ∙ by-place (slice_get (places_in 1 p.sentences) i) bound place (y, d.top) stands (other-of y other)
+      by-place (slice_get (places_in 1 p.sentences) i) (slice_get (bounds_in p.sentences) i) place (get_or d.rows i (pos 0), d.top) stands other
 
   pub one_noted : {T E : Type 0} (r : Result T E) (i : ℕ) (places : List BoundPlace) (place : BoundPlace) (y : ℤ) → places ≡ places_in 1 p.sentences
       → slice_get places i ≡ Some place → y ≡ get_or d.rows i (pos 0) → (y ≡ pos 0 → ⊥)
-      → (old new : List Supporting) → OnOk r (new ≡ old ++ supporting side q (slice_get (bounds_in p.sentences) i) place (line_in lines place.sentence) (y, d.top) ∷ [])
-      → OnOk r (new ≡ old ++ option_to_list (support_at p side q d lines i))
+      → (old new : List Supporting) → OnOk r (new ≡ old ++ told p side q d lines i place) → OnOk r (new ≡ old ++ option_to_list (support_at p side q d lines i))
   one_noted (Ok x) i places place y e there is other old new h =
-      h ∙ ap (λ (o : Option Supporting). old ++ option_to_list o) (sym (at-place i places place y e there is other))
+      h ∙ ap (λ (o : Option Supporting). old ++ option_to_list o) (sym (at-place i places place e there (subst (λ (z : ℤ). is_other z ≡ true) is (other-of y other))))
   one_noted (Err x) i places place y e there is other old new h = tt
 
 -- what is told of a bound, by its parts

@@ -1,7 +1,7 @@
 -- The sentences on which a bound rests.
 use Rattle.std.specs.Prelude.{◌-◌, ◌&&◌, ℕ, zero, suc, ℤ, pos, negsuc, ◌≤ℤ◌, unsigned_abs, Bool, true, false, not}
-use Rattle.std.specs.Prelude.{is_none, is_some, if◌then◌else◌, List, [], ◌++◌, length, map, get_or, slice_get}
-use Rattle.std.specs.Prelude.{Option, Some, None, option_to_list, All}
+use Rattle.std.specs.Prelude.{is_none, is_some, if◌then◌else◌, List, [], ◌∷◌, ◌++◌, length, map, get_or, slice_get}
+use Rattle.std.specs.Prelude.{◌≡◌, Option, Some, None, option_to_list, All, Result, OnOk, Vec}
 use Rattle.std.specs.List.Sorted.{IsPermutation, IsSortedByKey}
 use Rattle.std.specs.Ordering.{nat_cmp}
 use Rattle.ps_meaning.specs.Formula.{Formula}
@@ -104,9 +104,11 @@ supporting side q bound place line y = record {
   weight = unsigned_abs (size_of y.0 (unit_of bound));
 }
 
--- the same of the bound at a place of the problem
-abbrev pub told_at : Parts → BoundSide → stored.Query → List ℕ → ℕ → BoundPlace → ℤ × ℤ → Supporting
-told_at p side q lines i place y = supporting side q (slice_get (bounds_in p.sentences) i) place (line_in lines place.sentence) y
+-- the same of the bound at a place of the problem, by a dual
+abbrev pub told : Parts → BoundSide → stored.Query → Dual → List ℕ → ℕ → BoundPlace → List Supporting
+told p side q d lines i place =
+    supporting side q (slice_get (bounds_in p.sentences) i) place (line_in lines place.sentence)
+    (get_or d.rows i (pos 0), d.top) ∷ []
 
 -- the same at a place, where there is one and the multiplier isn't 0
 abbrev pub support_by : BoundSide → stored.Query → Option BoundIn → Option BoundPlace → List ℕ → ℤ × ℤ → Option Supporting
@@ -121,6 +123,10 @@ support_at p side q d lines i =
 
 abbrev pub noted : Parts → BoundSide → stored.Query → Dual → List ℕ → ℕ → List Supporting
 noted p side q d lines i = option_to_list (support_at p side q d lines i)
+
+-- unless memory ran out, more bounds stand behind those before
+abbrev pub Notes : {T E Z : Type 0} → Result T E → (old new : Vec Supporting Z) → List Supporting → Type 0
+Notes result old new more = OnOk result (new.items ≡ old.items ++ more)
 
 -- those of the first bounds, so many
 abbrev pub supports_to : Parts → BoundSide → stored.Query → Dual → List ℕ → ℕ → List Supporting

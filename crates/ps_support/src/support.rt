@@ -1,14 +1,14 @@
 //! On which sentences a bound rests.
-ghost use Rattle.std.specs.Prelude.{◌≡◌, ◌<◌, ◌≤◌, ◌≤ℤ◌, ◌++◌, IfOk, OnOk, Some, get_or, length};
-ghost use Rattle.std.specs.Prelude.{◌∷◌, [], pos, slice_get};
+ghost use Rattle.std.specs.Prelude.{◌≡◌, ◌<◌, ◌≤◌, ◌≤ℤ◌, IfOk, Some, get_or, length, pos};
+ghost use Rattle.std.specs.Prelude.{slice_get};
 ghost use Rattle.std.specs.List.Sorted.{IsPermutation};
 ghost use Rattle.ps_problem.specs.declared.limits.TheConstants.{GREATEST_SCALE};
 ghost use Rattle.ps_problem.specs.Problems.{HasNodes, bounds_in};
-ghost use Rattle.ps_claims.specs.Certificates.{IsMultiplier, IsSmallDual};
+ghost use Rattle.ps_claims.specs.Certificates.{IsSmallDual};
 ghost use Rattle.ps_support.specs.Places.{places_in};
-ghost use Rattle.ps_support.specs.Supports.{FallByWeight, IsShownBy, IsSupport, NamesAll};
+ghost use Rattle.ps_support.specs.Supports.{FallByWeight, IsShownBy, IsSupport, NamesAll, Notes};
 ghost use Rattle.ps_support.specs.Supports.{has_condition, is_free, line_in, noted};
-ghost use Rattle.ps_support.specs.Supports.{supports_in, told_at, unit_of};
+ghost use Rattle.ps_support.specs.Supports.{supports_in, told, unit_of};
 
 use crate::bound_side::BoundSide;
 use crate::places::{BoundPlace, End, bound_places};
@@ -115,32 +115,31 @@ fn place_at(places: &[BoundPlace], i: usize) -> BoundPlace
     places[i]
 }
 
-// Notes what is told of the bound at a place, by its multiplier and the dual's top.
+// Notes what is told of the bound at a place.
 fn push_supporting(
     found: &mut Vec<Supporting>,
     problem: &Problem,
     side: BoundSide,
     query: Query,
+    dual: &Dual,
     lines: &[u32],
     i: usize,
-    place: BoundPlace,
-    multiplier: i128,
-    top: i128,
+    at: BoundPlace,
 ) -> Result<(), NoMemory>
     requires inside { i < length (bounds_in problem.now.sentences) }
-    requires small { IsMultiplier multiplier }
-    requires top { pos 1 ≤ℤ top }
-    requires small_top { IsMultiplier top }
-    ensures { OnOk result (found.new.items ≡ found.old.items
-        ++ told_at problem.now side query lines.now i place (multiplier, top) ∷ []) }
+    requires rows { length dual.now.rows ≡ length (bounds_in problem.now.sentences) }
+    requires small { IsSmallDual dual.now }
+    requires top { pos 1 ≤ℤ dual.now.top }
+    ensures { Notes result found.old found.new
+        (told problem.now side query dual.now lines.now i at) }
 {
-    let size = size_of(multiplier, unit_at(problem, i));
-    let rate = rate_of(side, size, top);
-    let hundredth = hundredth_where(is_free(problem, query, i), side, size, top);
+    let size = size_of(multiplier_at(dual, i), unit_at(problem, i));
+    let rate = rate_of(side, size, dual.top);
+    let hundredth = hundredth_where(is_free(problem, query, i), side, size, dual.top);
     found.push(Supporting {
-        sentence: place.sentence,
-        line: line_in(lines, place.sentence),
-        end: place.end,
+        sentence: at.sentence,
+        line: line_in(lines, at.sentence),
+        end: at.end,
         rate,
         hundredth,
         weight: size.unsigned_abs(),
@@ -165,17 +164,15 @@ fn note_supporting(
     requires rows { length dual.now.rows ≡ length (bounds_in problem.now.sentences) }
     requires small { IsSmallDual dual.now }
     requires top { pos 1 ≤ℤ dual.now.top }
-    ensures { OnOk result (found.new.items
-        ≡ found.old.items ++ noted problem.now side query dual.now lines.now i) }
+    ensures { Notes result found.old found.new
+        (noted problem.now side query dual.now lines.now i) }
 {
     let multiplier = multiplier_at(dual, i);
     if multiplier == 0 {
         return Ok(());
     }
     let place = place_at(places, i);
-    push_supporting(
-        found, problem, side, query, lines, i, place, multiplier, dual.top,
-    )
+    push_supporting(found, problem, side, query, dual, lines, i, place)
 }
 
 // The bounds whose multipliers aren't 0, in the order of the problem, by the places of all bounds.
