@@ -14,7 +14,7 @@ use ps_answer::{Dual, Model, QueryAnswer, SideAnswer};
 use ps_frac::Fraction;
 use ps_guess::{Trials, Watch};
 use ps_io::NoMemory;
-use ps_problem::{Problem, Query};
+use ps_problem::Query;
 use ps_spoken::{Details, SideDetails};
 use ps_support::{BoundSide, Example, Support, example_of, support_of};
 use std::alloc::Global;
@@ -22,25 +22,26 @@ use std::alloc::Global;
 // The sentences on which a bound rests, by a dual that shows it.
 fn support_with(
     alloc: Global,
-    problem: &Problem,
+    trials: &Trials<'_>,
     query: Query,
     side: BoundSide,
     value: &Fraction,
     dual: &Dual,
     lines: &[u32],
 ) -> Result<Support, NoMemory>
-    requires query { HasNodes problem.now.nodes query.formula query.given query.both }
-    requires dual { IsDualFor problem.now side query value.now dual.now }
-    ensures true_of { IfOk result (IsSupport problem.now query side) }
+    requires query { HasNodes trials.now.nodes query.formula query.given query.both }
+    requires dual { IsDualFor trials.now side query value.now dual.now }
+    ensures true_of { IfOk result (IsSupport trials.now query side) }
     ensures value { IfOk result (λ s. s.value ≡ value.now) }
 {
+    let problem = trials.problem();
     support_of(alloc, problem, side, query, value, dual, lines)
 }
 
 // The same by a dual without certainties that the bound doesn't need, where one is found.
 fn support_lean(
     alloc: Global,
-    problem: &Problem,
+    trials: &Trials<'_>,
     query: Query,
     side: BoundSide,
     value: &Fraction,
@@ -48,15 +49,15 @@ fn support_lean(
     lean: &Option<Dual>,
     lines: &[u32],
 ) -> Result<Support, NoMemory>
-    requires query { HasNodes problem.now.nodes query.formula query.given query.both }
-    requires dual { IsDualFor problem.now side query value.now dual.now }
-    requires lean { IfSome lean.now (IsDualFor problem.now side query value.now) }
-    ensures true_of { IfOk result (IsSupport problem.now query side) }
+    requires query { HasNodes trials.now.nodes query.formula query.given query.both }
+    requires dual { IsDualFor trials.now side query value.now dual.now }
+    requires lean { IfSome lean.now (IsDualFor trials.now side query value.now) }
+    ensures true_of { IfOk result (IsSupport trials.now query side) }
     ensures value { IfOk result (λ s. s.value ≡ value.now) }
 {
     match lean {
-        Some(less) => support_with(alloc, problem, query, side, value, less, lines),
-        None => support_with(alloc, problem, query, side, value, dual, lines),
+        Some(less) => support_with(alloc, trials, query, side, value, less, lines),
+        None => support_with(alloc, trials, query, side, value, dual, lines),
     }
 }
 
@@ -81,8 +82,7 @@ fn support_by<W: Watch>(
         return Ok(None);
     };
     let lean = lean_dual(alloc, trials, side, query, value, model, dual, watch)?;
-    let problem = trials.problem();
-    Ok(Some(support_lean(alloc, problem, query, side, value, dual, &lean, lines)?))
+    Ok(Some(support_lean(alloc, trials, query, side, value, dual, &lean, lines)?))
 }
 
 // The sentences on which the bound of a side rests, where they are asked for and it is one.
@@ -114,13 +114,13 @@ fn support_in<W: Watch>(
 fn example_in(
     alloc: Global,
     settings: Settings,
-    problem: &Problem,
+    trials: &Trials<'_>,
     query: Query,
     side: BoundSide,
     answer: &SideAnswer,
 ) -> Result<Option<Example>, NoMemory>
-    requires proved { IsProvedSide problem.now (kind_of side) query answer.now }
-    ensures true_of { IfOk result (λ o. IfSome o (IsExample problem.now query)) }
+    requires proved { IsProvedSide trials.now (kind_of side) query answer.now }
+    ensures true_of { IfOk result (λ o. IfSome o (IsExample trials.now query)) }
     ensures asked { IfOk result
         (λ o. is_some o ≡ settings.tells_examples && is_bound answer.now) }
     ensures value { IfOk result (λ o. IfSome o (λ e. IsBoundAt answer.now e.value)) }
@@ -151,7 +151,7 @@ fn side_details<W: Watch>(
     ensures asked { IfOk result (IsAsAsked settings answer.now) }
 {
     let support = support_in(alloc, settings, trials, query, side, answer, lines, watch)?;
-    let example = example_in(alloc, settings, trials.problem(), query, side, answer)?;
+    let example = example_in(alloc, settings, trials, query, side, answer)?;
     Ok(SideDetails { support, example })
 }
 

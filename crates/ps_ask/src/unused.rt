@@ -75,6 +75,7 @@ fn unused_by(
 
 /// The sentences on which no bound rests, where they are asked for and some distribution meets all
 /// sentences.
+#[tactic(auto, using(ps_support::proofs::Owned::sentences_within))]
 pub(crate) fn unused_in(
     alloc: Global,
     settings: Settings,
@@ -90,6 +91,8 @@ pub(crate) fn unused_in(
     }
     match &answer.verdict {
         Verdict::Consistent(_) => {
+            // Called for its clauses: the sentences are few.
+            let _few = problem.rows();
             let sentences = problem.sentences().as_slice();
             Ok(Some(unused_by(alloc, sentences, details)?))
         }
