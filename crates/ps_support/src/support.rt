@@ -117,7 +117,7 @@ fn place_at(places: &[BoundPlace], i: usize) -> BoundPlace
 
 // Notes what is told of the bound at a place.
 fn push_supporting(
-    found: &mut Vec<Supporting>,
+    into: &mut Vec<Supporting>,
     problem: &Problem,
     side: BoundSide,
     query: Query,
@@ -130,13 +130,13 @@ fn push_supporting(
     requires rows { length dual.now.rows ≡ length (bounds_in problem.now.sentences) }
     requires small { IsSmallDual dual.now }
     requires top { pos 1 ≤ℤ dual.now.top }
-    ensures { Notes result found.old found.new
-        (told problem.now side query dual.now lines.now i at) }
+    ensures { Notes result into.old into.new
+        (told problem.now side query dual.now lines.now (i, at)) }
 {
     let size = size_of(multiplier_at(dual, i), unit_at(problem, i));
     let rate = rate_of(side, size, dual.top);
     let hundredth = hundredth_where(is_free(problem, query, i), side, size, dual.top);
-    found.push(Supporting {
+    into.push(Supporting {
         sentence: at.sentence,
         line: line_in(lines, at.sentence),
         end: at.end,

@@ -14,4 +14,4 @@ pub returns : goal.returns
 returns c =
     one_noted c.args.problem.now c.args.side c.args.query c.args.dual.now c.args.lines.now c.push_supporting.result c.args.i c.args.places.now c.place_at-place.result
     c.multiplier_at-multiplier.result c.requires.places c.place_at-place.ensures c.multiplier_at-multiplier.ensures
-    (λ (e : c.multiplier_at-multiplier.result ≡ pos 0). c.if-multiplier-eq0.false (omega (arith, ints))) c.args.found.now.items c.push_supporting.new.found.items c.push_supporting.ensures
+    (λ (e : c.multiplier_at-multiplier.result ≡ pos 0). c.if-multiplier-eq0.false (omega (arith, ints))) c.args.found.now.items c.push_supporting.new.into.items c.push_supporting.ensures

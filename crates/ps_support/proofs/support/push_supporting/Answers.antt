@@ -27,7 +27,7 @@ returns c =
     let bound = slice_get (bounds_in c.args.problem.now.sentences) c.args.i in
     let line = line_in c.args.lines.now c.args.at.sentence in
     let d = c.args.dual.now in
-    ◌∙◌ {A = List Supporting} c.in_ok-push.ensures.items (ap (λ (one : Supporting). c.args.found.now.items ++ one ∷ [])
+    ◌∙◌ {A = List Supporting} c.in_ok-push.ensures.items (ap (λ (one : Supporting). c.args.into.now.items ++ one ∷ [])
     (told_of c.args.side c.args.query bound c.args.at c.args.lines.now c.multiplier_at.result d.top
     c.unit_at.result c.size_of-size.result c.is_free.result c.line_in.result c.unsigned_abs.result c.rate_of-rate.result c.hundredth_where-hundredth.result
     c.unit_at.ensures.value sized c.is_free.ensures c.line_in.ensures (search rules) fast moves _ refl
