@@ -23,6 +23,7 @@ use Rattle.ps_ask.specs.declared.reply.ReplyError.{ReplyError}
 use Rattle.ps_ask.specs.declared.reply.ReplyError.TheVariants as errors
 use Rattle.ps_ask.specs.Late.{is_late}
 use Rattle.ps_ask.specs.Statuses.{HasText, status_after, status_by}
+use Rattle.ps_ask.specs.Details.{AreToldAsAsked}
 use Rattle.ps_ask.specs.Fronts.{AreTrueAfter, IsBegunText, IsWhole, begun_text}
 use Rattle.ps_ask.specs.Shown.{AsItGoes, CountsReads, IsText, Shown, NoProblem, TooLong, answer_output, last_text, wanted_report}
 use Rattle.ps_ask.specs.Replies.{AreShortInTime, Ended, HasShown, Shows, IsDueAfter, IsOf, IsShort, IsShownFor, IsSolvedAfter, last_of, output_after, report_by, status_of, status_with}
@@ -51,8 +52,8 @@ output-is s p a r t e h =
     λ i. record { text = begun_text s.style s.digits p a t.details ++ e i; report = reported i; status = ends i }
 
 pub solved_after : (s : Settings) (name : List ℕ) (p : Parts) (a : Answer) (rs : List Details) (r : Reply) (old new : Option (List ℕ)) → IsWhole s p a → AreTrueAfter p a.verdict rs
-    → Appends old new (begun_text s.style s.digits p a rs) → IsShownFor s name p a rs r → IsSolvedAfter s name p old new r
-solved_after s name p a rs r old new h told w k = record {
+    → AreToldAsAsked s a.parts rs → Appends old new (begun_text s.style s.digits p a rs) → IsShownFor s name p a rs r → IsSolvedAfter s name p old new r
+solved_after s name p a rs r old new h told asked w k = record {
   begun = begun_text s.style s.digits p a k.beside.details;
   written = subst (λ (x : List Details). Appends old new (begun_text s.style s.digits p a x)) (sym k.details_is) w;
   solved = record {
@@ -61,6 +62,7 @@ solved_after s name p a rs r old new h told w k = record {
     beside = k.beside;
     told = k.told;
     details = subst (AreTrueAfter p a.verdict) (sym k.details_is) told;
+    asked = subst (AreToldAsAsked s a.parts) (sym k.details_is) asked;
     is = output-is s p a r k.beside k.last_is k.answer_is;
   };
 }

@@ -19,7 +19,7 @@ use Rattle.ps_generation.specs.Phases.{AreLimits}
 use Rattle.ps_query.proofs.Loops.{zip_next}
 use Rattle.ps_guess.specs.Solutions.{IsAnsweredPart, IsAnsweredVerdict}
 use Rattle.ps_guess.proofs.Settled.{solution, short}
-use Rattle.ps_ask.specs.Details.{AreTrueOf, IsTrueOf}
+use Rattle.ps_ask.specs.Details.{AreToldAsAsked, AreTrueOf, IsToldAsAsked, IsTrueOf}
 use Rattle.ps_spoken.specs.declared.details.Details.{Details}
 use Rattle.ps_spoken.specs.Spoken.{spoken, part_text, parts_text}
 use Rattle.ps_spoken.specs.Quiet.{values_of}
@@ -77,12 +77,21 @@ length-next : {A : Type 0} (xs : List A) (x : A) → length (xs ++ x ∷ []) ≡
 length-next [] x = refl
 length-next (y ∷ xs) x = let h = length-next xs x in omega (arith, h)
 
--- the parts of the first queries, with what is reached of each
+-- what is told with each of some parts is as asked, and so it is with one more
+asked-next : (s : Settings) (parts : List QueryPart) (rs : List Details) (part : QueryPart) (r : Details) → AreToldAsAsked s parts rs → IsToldAsAsked s part r
+    → AreToldAsAsked s (parts ++ part ∷ []) (rs ++ r ∷ [])
+asked-next s [] [] part r h k = (k, tt)
+asked-next s [] (x ∷ rs) part r h k = absurd h
+asked-next s (y ∷ parts) [] part r h k = absurd h
+asked-next s (y ∷ parts) (x ∷ rs) part r h k = (h.0, asked-next s parts rs part r h.1 k)
+
+-- the parts of the first queries, with what is told of each
 pub record ArePartsTo (s : Settings) (p : Parts) (i : ℕ) (parts : List QueryPart) (rs : List Details) : Type 0 where
   pub count : length parts ≡ i
   pub shown : AreShownParts s p (take i p.queries) parts
   pub each : length rs ≡ i
   pub told : AreTrueTo p p.queries i rs
+  pub asked : AreToldAsAsked s parts rs
 
 pub pieces_begun : (s : Settings) (p : Parts) (i : ℕ) (parts : List QueryPart) (rs : List Details) → ArePartsTo s p i parts rs → ArePiecesFor s p p.queries (parts_pieces s.style s.digits p parts rs)
 pieces_begun s p i parts rs h = record {
@@ -90,16 +99,18 @@ pieces_begun s p i parts rs h = record {
   details = rs;
   shown = subst (λ k. AreShownParts s p (take k p.queries) parts) (sym h.count) h.shown;
   told = subst (λ k. AreTrueTo p p.queries k rs) (sym h.count) h.told;
+  asked = h.asked;
   is = refl;
 }
 
 module _ (s : Settings) (p : Parts) (i : ℕ) (parts : List QueryPart) (rs : List Details) (q d : Query) (are : ArePartsTo s p i parts rs) (is : q ≡ get_or p.queries i d) (lt : i < length p.queries) where
-  pub parts_next : (part : QueryPart) (r : Details) → IsShownPart s p q part → IsTrueOf p q r → ArePartsTo s p (i + 1) (parts ++ part ∷ []) (rs ++ r ∷ [])
-  parts_next part r h k = record {
+  pub parts_next : (part : QueryPart) (r : Details) → IsShownPart s p q part → IsTrueOf p q r → IsToldAsAsked s part r → ArePartsTo s p (i + 1) (parts ++ part ∷ []) (rs ++ r ∷ [])
+  parts_next part r h k l = record {
     count = length-next parts part ∙ ap (λ k. k + 1) are.count;
     shown = zip_next (IsShownPart s p) p.queries parts i d part lt are.shown (subst (λ x. IsShownPart s p x part) is h);
     each = length-next rs r ∙ ap (λ k. k + 1) are.each;
     told = zip_next (IsTrueOf p) p.queries rs i d r lt are.told (subst (λ x. IsTrueOf p x r) is k);
+    asked = asked-next s parts rs part r are.asked l;
   }
 
   pub text_next : (part : QueryPart) (r : Details)
@@ -112,17 +123,18 @@ module _ (s : Settings) (p : Parts) (i : ℕ) (parts : List QueryPart) (rs : Lis
 
   pub pieces_more : (text : List ℕ) → IsPiece s p q text → ArePiecesFor s p p.queries (parts_pieces s.style s.digits p parts rs ++ text)
   pieces_more text h =
-      let next = parts_next h.part h.details h.shown h.told in
+      let next = parts_next h.part h.details h.shown h.told h.asked in
       record {
         parts = parts ++ h.part ∷ [];
         details = rs ++ h.details ∷ [];
         shown = subst (λ k. AreShownParts s p (take k p.queries) (parts ++ h.part ∷ [])) (sym next.count) next.shown;
         told = subst (λ k. AreTrueTo p p.queries k (rs ++ h.details ∷ [])) (sym next.count) next.told;
+        asked = next.asked;
         is = ap (λ t. parts_pieces s.style s.digits p parts rs ++ t) h.is ∙ sym (text_next h.part h.details);
       }
 
 pub parts_begin : (s : Settings) (p : Parts) → ArePartsTo s p 0 [] []
-parts_begin s p = record { count = refl; shown = tt; each = refl; told = tt }
+parts_begin s p = record { count = refl; shown = tt; each = refl; told = tt; asked = tt }
 
 pub parts_end : (s : Settings) (p : Parts) (i : ℕ) (parts : List QueryPart) (rs : List Details) → ArePartsTo s p i parts rs → length p.queries ≤ i → AreShownParts s p p.queries parts
 parts_end s p i parts rs h all = subst (λ qs. AreShownParts s p qs parts) (take_all i p.queries all) h.shown
@@ -139,6 +151,7 @@ begun_verdict s p text h =
       details = [];
       under_way = record { verdict = h.shown; parts = tt };
       told = tt;
+      asked = tt;
       is = h.is ∙ sym (append-nil (verdict_piece s.style h.verdict)) ∙ ap (λ t. verdict_piece s.style h.verdict ++ t) (sym (pieces_none s.style s.digits p []))
           ∙ sym (begun_is s.style s.digits p a []);
     }
@@ -152,11 +165,13 @@ begun_after s p v events is text h =
       details = h.details;
       under_way = record { verdict = is; parts = h.shown };
       told = h.told;
+      asked = h.asked;
       is = ap (λ t. verdict_piece s.style v ++ t) h.is ∙ sym (begun_is s.style s.digits p a h.details);
     }
 
-pub begun_whole : (s : Settings) (p : Parts) (a : Answer) (rs : List Details) → IsWhole s p a → AreTrueAfter p a.verdict rs → IsBegunText s p (begun_text s.style s.digits p a rs)
-begun_whole s p a rs h k =
+pub begun_whole : (s : Settings) (p : Parts) (a : Answer) (rs : List Details) → IsWhole s p a → AreTrueAfter p a.verdict rs → AreToldAsAsked s a.parts rs
+    → IsBegunText s p (begun_text s.style s.digits p a rs)
+begun_whole s p a rs h k asked =
     let long : length (asked_after a.verdict p.queries) ≡ length a.parts = sym (AllZip-long (IsShownPart s p) (asked_after a.verdict p.queries) a.parts h.parts) in
     let all : take (length a.parts) (asked_after a.verdict p.queries) ≡ asked_after a.verdict p.queries = take_all (length a.parts) (asked_after a.verdict p.queries) (omega (arith, long)) in
     record {
@@ -164,6 +179,7 @@ begun_whole s p a rs h k =
       details = rs;
       under_way = record { verdict = h.verdict; parts = subst (λ qs. AreShownParts s p qs a.parts) (sym all) h.parts };
       told = subst (λ qs. AreTrueOf p qs rs) (sym all) k;
+      asked = asked;
       is = refl;
     }
 

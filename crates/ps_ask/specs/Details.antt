@@ -8,6 +8,9 @@ use Rattle.ps_problem.specs.declared.query.Query.{Query}
 use Rattle.ps_problem.specs.Problems.{Parts, bounds_of}
 use Rattle.ps_answer.specs.declared.answer.Dual.{Dual}
 use Rattle.ps_answer.specs.declared.answer.Model.{Model}
+use Rattle.ps_answer.specs.declared.answer.QueryAnswer.{QueryAnswer}
+use Rattle.ps_answer.specs.declared.answer.QueryAnswer.TheVariants as query
+use Rattle.ps_answer.specs.declared.answer.QueryPart.{QueryPart}
 use Rattle.ps_answer.specs.declared.answer.SideAnswer.{SideAnswer}
 use Rattle.ps_answer.specs.declared.answer.SideAnswer.TheVariants.{Bound, Open}
 use Rattle.ps_claims.specs.Certificates.{IsSmallDual, entries}
@@ -20,6 +23,7 @@ use Rattle.ps_support.specs.Examples.{likely_of}
 use Rattle.ps_support.specs.Supports.{IsShownBy, IsSupport}
 use Rattle.ps_spoken.specs.declared.details.Details.{Details}
 use Rattle.ps_spoken.specs.declared.details.SideDetails.{SideDetails}
+use Rattle.ps_spoken.specs.Details.{no_side}
 use Rattle.ps_ask.specs.declared.settings.Settings.{Settings}
 use Rattle.ps_ask.specs.Known.{IsBoundAt}
 use Rattle.ps_ask.specs.Reached.{IsReachedAsTold}
@@ -69,3 +73,17 @@ pub record IsAsAsked (s : Settings) (a : SideAnswer) (t : SideDetails) : Type 0 
   pub supported : IfSome t.support (λ x. IsBoundAt a x.value)
   pub example : is_some t.example ≡ s.tells_examples && is_bound a
   pub reached : IfSome t.example (λ x. IsBoundAt a x.value)
+
+-- so it is of both sides of an answer to a query, and nothing is told beneath one that has none
+abbrev pub AreAsAsked : Settings → QueryAnswer → SideDetails → SideDetails → Type 0
+AreAsAsked s (query.Bounds lower lower_trace upper upper_trace) below above = IsAsAsked s lower below × IsAsAsked s upper above
+AreAsAsked s (query.Impossible d) below above = (below ≡ no_side) × (above ≡ no_side)
+AreAsAsked s (query.Open c) below above = (below ≡ no_side) × (above ≡ no_side)
+
+-- so it is told with a part
+abbrev pub IsToldAsAsked : Settings → QueryPart → Details → Type 0
+IsToldAsAsked s part t = AreAsAsked s part.answer t.lower t.upper
+
+-- so it is with each of these parts
+abbrev pub AreToldAsAsked : Settings → List QueryPart → List Details → Type 0
+AreToldAsAsked s parts ts = AllZip (IsToldAsAsked s) parts ts

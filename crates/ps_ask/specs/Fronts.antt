@@ -17,7 +17,7 @@ use Rattle.ps_claims.specs.Printed.{IsPrintedPart}
 use Rattle.ps_guess.specs.Known.{AreFound}
 use Rattle.ps_guess.specs.Solutions.{IsAnsweredPart, IsAnsweredVerdict, IsSettledSolution}
 use Rattle.ps_spoken.specs.declared.details.Details.{Details}
-use Rattle.ps_ask.specs.Details.{AreTrueOf}
+use Rattle.ps_ask.specs.Details.{AreToldAsAsked, AreTrueOf}
 use Rattle.ps_spoken.specs.Spoken.{spoken, out_of_time, verdict_text, part_text, parts_text}
 use Rattle.ps_spoken.specs.Exact.{exact_of, query_exact, parts_exact}
 use Rattle.ps_spoken.specs.Quiet.{values_of, verdict_value, query_values, parts_values}
@@ -137,10 +137,11 @@ AreTrueTo p qs n ts = AreTrueOf p (take n qs) ts
 abbrev pub AreTrueAfter : Parts → Verdict → List Details → Type 0
 AreTrueAfter p v ts = AreTrueOf p (asked_after v p.queries) ts
 
--- the text of an answer to a problem, as far as it goes, with what is told of each query
+-- the text of an answer to a problem, as far as it goes, with what is told of each query: that is true, and what was asked for
 pub record IsBegunText (s : Settings) (p : Parts) (text : List ℕ) : Type 0 where
   pub answer : Answer
   pub details : List Details
   pub under_way : IsUnderWay s p answer
   pub told : AreTrueTo p (asked_after answer.verdict p.queries) (length answer.parts) details
+  pub asked : AreToldAsAsked s answer.parts details
   pub is : text ≡ begun_text s.style s.digits p answer details

@@ -14,7 +14,7 @@ use Rattle.ps_problem.specs.Problems.{Parts}
 use Rattle.ps_query.specs.Solutions.{AreShortLines}
 use Rattle.ps_spoken.specs.Objects.{Beside}
 use Rattle.ps_spoken.specs.declared.details.Details.{Details}
-use Rattle.ps_ask.specs.Details.{IsTrueOf}
+use Rattle.ps_ask.specs.Details.{AreToldAsAsked, IsToldAsAsked, IsTrueOf}
 use Rattle.ps_ask.specs.declared.notes.Input.{Input}
 use Rattle.ps_ask.specs.declared.settings.Settings.{Settings}
 use Rattle.ps_ask.specs.declared.status.Status.{Status}
@@ -136,6 +136,7 @@ pub record IsPiece (s : Settings) (p : Parts) (q : Query) (text : List ℕ) : Ty
   pub details : Details
   pub shown : IsShownPart s p q part
   pub told : IsTrueOf p q details
+  pub asked : IsToldAsAsked s part details
   pub is : text ≡ part_piece s.style s.digits p q part details
 
 -- the pieces of parts that are shown for the first of these queries, with what is told of each
@@ -144,6 +145,7 @@ pub record ArePiecesFor (s : Settings) (p : Parts) (qs : List Query) (text : Lis
   pub details : List Details
   pub shown : AreShownParts s p (take (length parts) qs) parts
   pub told : AreTrueTo p qs (length parts) details
+  pub asked : AreToldAsAsked s parts details
   pub is : text ≡ parts_pieces s.style s.digits p parts details
 
 -- ---- what is due behind it

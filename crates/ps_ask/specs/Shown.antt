@@ -27,6 +27,7 @@ use Rattle.ps_ask.specs.declared.sinks.Sinks.{Sinks}
 use Rattle.ps_ask.specs.declared.status.Status.{Status}
 use Rattle.ps_ask.specs.declared.status.Status.TheVariants.{Unreadable, ReadFault, WriteFault, ReportFault, NoMemory}
 use Rattle.ps_ask.specs.Clashes.{IsClashAt}
+use Rattle.ps_ask.specs.Details.{AreToldAsAsked}
 use Rattle.ps_ask.specs.Fronts.{AreTrueAfter, IsBegunText, IsWhole, begun_text}
 use Rattle.ps_ask.specs.Late.{is_late}
 use Rattle.ps_ask.specs.Statuses.{open_in, status_after, status_number}
@@ -109,15 +110,16 @@ abbrev pub no_output : Output
 no_output = record { text = []; report = []; status = Unreadable }
 
 -- the output shows a whole answer to a problem: it is valid and right, and each part has its certificates or comes of a lawful
--- run, unless something is shown as not finished in time; and what is told of each query is true: a value that is shown as
--- reached is reached by some distribution that meets the sentences, a bound holds by the sentences alone on which it is said to
--- rest, and a distribution that is shown with it reaches it
+-- run, unless something is shown as not finished in time; and of each query it is told what was asked for, and that is true: a
+-- value that is shown as reached is reached by some distribution that meets the sentences, a bound holds by the sentences alone
+-- on which it is said to rest, and a distribution that is shown with it reaches it
 pub record IsSolvedBy (s : Settings) (name : List ℕ) (p : Parts) (o : Output) : Type 0 where
   pub answer : Answer
   pub whole : IsWhole s p answer
   pub beside : Beside
   pub told : IsToldFor s name p answer beside
   pub details : AreTrueAfter p answer.verdict beside.details
+  pub asked : AreToldAsAsked s answer.parts beside.details
   pub is : o ≡ answer_output s p answer beside
 
 -- due for bytes under a name: an answer to the problem that they spell is shown; or nothing is, where they are no

@@ -2,7 +2,8 @@
 ghost use Rattle.std.specs.Prelude.{◌≡◌, ◌&&◌, IfOk, IfSome, is_some};
 ghost use Rattle.ps_problem.specs.Problems.{HasNodes};
 ghost use Rattle.ps_support.specs.Supports.{IsSupport, kind_of};
-ghost use Rattle.ps_ask.specs.Details.{IsAsAsked, IsDualFor, IsExample, IsTrueOf};
+ghost use Rattle.ps_support.specs.declared.bound_side.BoundSide.TheVariants.{Lower, Upper};
+ghost use Rattle.ps_ask.specs.Details.{AreAsAsked, IsAsAsked, IsDualFor, IsExample, IsTrueOf};
 ghost use Rattle.ps_ask.specs.Details.{IsTrueOfSide, is_bound};
 ghost use Rattle.ps_ask.specs.Known.{IsBoundAt, IsModelFor, IsProvedFor, IsProvedSide};
 ghost use Rattle.ps_ask.specs.Known.{IsRightFor};
@@ -155,10 +156,39 @@ fn side_details<W: Watch>(
     Ok(SideDetails { support, example })
 }
 
+// What is told of both sides of an answer to a query, and nothing where it has none.
+#[tactic(auto, using(crate::proofs::DetailLaws::proved_lower, crate::proofs::DetailLaws::proved_upper))]
+fn sides_told<W: Watch>(
+    alloc: Global,
+    settings: Settings,
+    trials: &Trials<'_>,
+    query: Query,
+    answer: &QueryAnswer,
+    lines: &[u32],
+    watch: &mut W,
+) -> Result<(SideDetails, SideDetails), NoMemory>
+    requires query { HasNodes trials.now.nodes query.formula query.given query.both }
+    requires proved { IsProvedFor trials.now query answer.now }
+    ensures lower { IfOk result (λ r. IsTrueOfSide trials.now query Lower r.0) }
+    ensures upper { IfOk result (λ r. IsTrueOfSide trials.now query Upper r.1) }
+    ensures asked { IfOk result (λ r. AreAsAsked settings answer.now r.0 r.1) }
+{
+    match answer {
+        QueryAnswer::Bounds { lower, upper, .. } => {
+            let (low, high) = (BoundSide::Lower, BoundSide::Upper);
+            let below = side_details(alloc, settings, trials, query, low, lower, lines, watch)?;
+            let above = side_details(alloc, settings, trials, query, high, upper, lines, watch)?;
+            Ok((below, above))
+        }
+        QueryAnswer::Impossible(_) | QueryAnswer::Open(_) => {
+            Ok((SideDetails::none(), SideDetails::none()))
+        }
+    }
+}
+
 /// What is told of a query beneath the answer to it: what is reached of it where it is open, and of
 /// each bound, where that is asked for, the sentences on which it rests and a distribution that
 /// reaches it.
-#[tactic(auto, using(crate::proofs::DetailLaws::proved_lower, crate::proofs::DetailLaws::proved_upper))]
 pub(crate) fn details_of<W: Watch>(
     alloc: Global,
     settings: Settings,
@@ -173,20 +203,14 @@ pub(crate) fn details_of<W: Watch>(
     requires model { IsModelFor trials.now model.now }
     requires right { IsRightFor trials.now query answer.now }
     requires proved { IsProvedFor trials.now query answer.now }
-    ensures { IfOk result (IsTrueOf trials.now query) }
+    ensures true_of { IfOk result (IsTrueOf trials.now query) }
+    ensures asked { IfOk result (λ t. AreAsAsked settings answer.now t.lower t.upper) }
 {
     let reached = reached_of(alloc, trials.problem(), query, answer, model)?;
-    let QueryAnswer::Bounds { lower, upper, .. } = answer else {
-        return Ok(Details {
-            reached,
-            ..Details::none()
-        });
-    };
-    let below = BoundSide::Lower;
-    let above = BoundSide::Upper;
+    let (lower, upper) = sides_told(alloc, settings, trials, query, answer, lines, watch)?;
     Ok(Details {
         reached,
-        lower: side_details(alloc, settings, trials, query, below, lower, lines, watch)?,
-        upper: side_details(alloc, settings, trials, query, above, upper, lines, watch)?,
+        lower,
+        upper,
     })
 }

@@ -2,7 +2,7 @@
 ghost use Rattle.std.specs.Prelude.{◌≡◌, ◌++◌, ◌∷◌, [], IfErr, IfOk, OnOk};
 ghost use Rattle.ps_io.specs.Transfer.{Appends};
 ghost use Rattle.ps_problem.specs.Problems.{HasNodes};
-ghost use Rattle.ps_ask.specs.Details.{AreTrueOf, IsTrueOf};
+ghost use Rattle.ps_ask.specs.Details.{AreToldAsAsked, AreTrueOf, IsToldAsAsked, IsTrueOf};
 ghost use Rattle.ps_ask.specs.Shown.{AreSettings};
 ghost use Rattle.ps_ask.specs.Fronts.{AreShownAfter, AreShownParts, AreTrueAfter, IsBegunText};
 ghost use Rattle.ps_ask.specs.Fronts.{IsShownPart};
@@ -107,6 +107,7 @@ fn part_with_piece<W: Company>(
     requires pending { IsPending settings trials.now query pending }
     ensures judged { IfOk result (λ r. IsShownPart settings trials.now query r.0.0) }
     ensures details { IfOk result (λ r. IsTrueOf trials.now query r.0.1) }
+    ensures asked { IfOk result (λ r. IsToldAsAsked settings r.0.0 r.0.1) }
     ensures piece { IfOk result (λ r. r.1.items ≡ piece_of settings trials.now query r.0) }
 {
     let part = judged_part(alloc, settings, trials, query, pending)?;
@@ -138,6 +139,7 @@ fn show_part<O: Sink, W: Company>(
     requires pending { IsPending settings trials.now query pending }
     ensures judged { IfOk result (λ r. IsShownPart settings trials.now query r.0) }
     ensures details { IfOk result (λ r. IsTrueOf trials.now query r.1) }
+    ensures asked { IfOk result (λ r. IsToldAsAsked settings r.0 r.1) }
     ensures wrote { IfOk result
         (Adds O.Sink sink.old sink.new (piece_of settings trials.now query)) }
     ensures ended { Stops O.Sink sink.old sink.new (IsPiece settings trials.now query) result }
@@ -182,6 +184,7 @@ fn show_parts<O: Sink, W: Company>(
     requires model { IsModelFor trials.now model.now }
     ensures judged { IfOk result (λ r. AreShownParts settings trials.now trials.now.queries r.0) }
     ensures details { IfOk result (λ r. AreTrueOf trials.now trials.now.queries r.1) }
+    ensures asked { IfOk result (λ r. AreToldAsAsked settings r.0 r.1) }
     ensures wrote { IfOk result
         (Adds O.Sink sink.old sink.new (pieces_of settings trials.now)) }
     ensures ended { Stops O.Sink sink.old sink.new (AreAllPieces settings trials.now) result }
@@ -227,6 +230,7 @@ fn show_parts_under<O: Sink, W: Company>(
     requires right { IsRightVerdictFor trials.now verdict.now }
     ensures judged { IfOk result (λ r. AreShownAfter settings trials.now verdict.now r.0) }
     ensures details { IfOk result (λ r. AreTrueAfter trials.now verdict.now r.1) }
+    ensures asked { IfOk result (λ r. AreToldAsAsked settings r.0 r.1) }
     ensures wrote { IfOk result
         (Adds O.Sink sink.old sink.new (pieces_of settings trials.now)) }
     ensures ended { Stops O.Sink sink.old sink.new
@@ -253,6 +257,7 @@ fn show_answer<O: Sink, W: Company>(
     requires settings { AreSettings settings }
     ensures whole { IfOk result (λ r. IsWhole settings trials.now r.0) }
     ensures details { IfOk result (λ r. AreTrueAfter trials.now r.0.verdict r.1) }
+    ensures asked { IfOk result (λ r. AreToldAsAsked settings r.0.parts r.1) }
     ensures wrote { IfOk result
         (Adds O.Sink sink.old sink.new (begun_of settings trials.now)) }
     ensures ended { Stops O.Sink sink.old sink.new (IsBegunText settings trials.now) result }
@@ -327,6 +332,7 @@ pub fn show_front<O: Sink, W: Company>(
     requires settings { AreSettings settings }
     ensures whole { IfOk result (λ r. IsWhole settings problem.now r.0) }
     ensures details { IfOk result (λ r. AreTrueAfter problem.now r.0.verdict r.1) }
+    ensures asked { IfOk result (λ r. AreToldAsAsked settings r.0.parts r.1) }
     ensures wrote { IfOk result
         (Adds O.Sink sink.old sink.new (begun_of settings problem.now)) }
     ensures ended { Stops O.Sink sink.old sink.new (IsBegunText settings problem.now) result }

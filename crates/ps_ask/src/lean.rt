@@ -1,5 +1,5 @@
 //! Duals without the multipliers of certainties that they don't need.
-ghost use Rattle.std.specs.Prelude.{◌≡◌, IfOk, IfSome};
+ghost use Rattle.std.specs.Prelude.{◌≡◌, ◌↔◌, IfOk, IfSome, IsTrue};
 ghost use Rattle.ps_problem.specs.Problems.{HasNodes};
 ghost use Rattle.ps_support.specs.Supports.{kind_of};
 ghost use Rattle.ps_guess.specs.Trials.{IsFoundSide};
@@ -69,6 +69,20 @@ fn without(alloc: Global, dual: &Dual, place: usize) -> Result<Dual, NoMemory> {
     })
 }
 
+fn equal(a: i128, b: i128) -> bool
+    ensures { IsTrue result ↔ (a ≡ b) }
+{
+    a == b
+}
+
+// Whether two values are the same.
+#[tactic(auto, using(ps_valid::proofs::Quotients::same_number, ps_valid::proofs::Quotients::same_parts))]
+fn is_same(a: &Fraction, b: &Fraction) -> bool
+    ensures { IsTrue result ↔ (a.now ≡ b.now) }
+{
+    equal(a.numerator(), b.numerator()) && equal(a.denominator(), b.denominator())
+}
+
 // The dual of a side that was found, where it shows this value.
 #[tactic(auto, using(crate::proofs::DetailLaws::found_by))]
 fn dual_at(
@@ -87,7 +101,7 @@ fn dual_at(
             dual,
             ..
         } => {
-            if shown == *value {
+            if is_same(&shown, value) {
                 return Some(dual);
             }
             None
@@ -97,7 +111,7 @@ fn dual_at(
 }
 
 // A dual of these multipliers that shows the value, where a short search refutes it.
-fn tried(
+fn refuted_dual(
     alloc: Global,
     trials: &Trials<'_>,
     side: BoundSide,
@@ -142,7 +156,7 @@ fn without_certainty(
         return Ok(None);
     }
     let less = without(alloc, dual, place)?;
-    tried(alloc, trials, side, query, value, model, less)
+    refuted_dual(alloc, trials, side, query, value, model, less)
 }
 
 // The last of two that there is.

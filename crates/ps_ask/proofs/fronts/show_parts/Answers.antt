@@ -33,7 +33,7 @@ returns-then-is_err-clause-ended g c =
     let piece = part_piece s.style s.digits p q part told in
     some_ended (ArePiecesFor s p p.queries) (g.O.Sink.written c.args.sink.now) (g.O.Sink.written c.show_part.new.sink) (pieces ++ piece)
     (pieces_more s p i parts rs q _ c.loop-query.invariant.parts (ap (λ (qs : List Query). get_or qs i _) same) lt piece
-    (record { part = part; details = told; shown = c.in-Ok-show_part.ensures.judged; told = c.in-Ok-show_part.ensures.details; is = refl }))
+    (record { part = part; details = told; shown = c.in-Ok-show_part.ensures.judged; told = c.in-Ok-show_part.ensures.details; asked = c.in-Ok-show_part.ensures.asked; is = refl }))
     (appends-then (g.O.Sink.written c.args.sink.now) (g.O.Sink.written c.loop-query.sink) (g.O.Sink.written c.show_part.new.sink) pieces piece
     c.loop-query.invariant.written c.in-Ok-show_part.ensures.wrote)
 
@@ -68,7 +68,8 @@ loop-query-preserved g c =
     let pushed : c.add_part.new.parts ≡ parts ++ part ∷ [] = search rules in
     let noted : c.add_part.new.details ≡ rs ++ told ∷ [] = search rules in
     rw (pushed, noted) (record {
-      parts = parts_next s p i parts rs q _ c.loop-query.invariant.parts there lt part told c.in-Ok-show_part.ensures.judged c.in-Ok-show_part.ensures.details;
+      parts = parts_next s p i parts rs q _ c.loop-query.invariant.parts there lt part told c.in-Ok-show_part.ensures.judged c.in-Ok-show_part.ensures.details
+          c.in-Ok-show_part.ensures.asked;
       written = rw (text_next s p i parts rs q _ c.loop-query.invariant.parts there lt part told)
           (appends-then (g.O.Sink.written c.args.sink.now) (g.O.Sink.written c.loop-query.sink) (g.O.Sink.written c.show_part.new.sink)
           (parts_pieces s.style s.digits p parts rs) (part_piece s.style s.digits p q part told) c.loop-query.invariant.written c.in-Ok-show_part.ensures.wrote);
