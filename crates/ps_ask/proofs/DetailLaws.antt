@@ -1,6 +1,6 @@
 -- What is told beneath the bounds of queries is true.
 use Rattle.std.proofs.Common.{◌≡◌, ℕ, ◌<◌, ◌≤◌, ℤ, pos, ◌<ℤ◌, ◌≤ℤ◌, ◌+ℤ◌, unsigned_abs, Bool, true, false, inl, inr, List, [], ◌∷◌, map, length, All, refl, sym, subst, arith}
-use Rattle.std.specs.Prelude.{◌⊎◌}
+use Rattle.std.specs.Prelude.{◌⊎◌, Option, Some, None, IfSome}
 use Rattle.std.specs.List.Sorted.{IsPermutation}
 use Rattle.std.proofs.lemmas.Int.{ints}
 use Rattle.std.proofs.lemmas.List.Elements.{All-nil, All-cons, All-head, All-tail}
@@ -30,7 +30,7 @@ use Rattle.ps_support.specs.declared.example.Example.{Example}
 use Rattle.ps_support.specs.Examples.{AreWeights, HasTotal, likely_of}
 use Rattle.ps_support.specs.Supports.{kind_of}
 use Rattle.ps_ask.specs.declared.settings.Settings.{Settings}
-use Rattle.ps_ask.specs.Details.{IsDualFor, IsExample}
+use Rattle.ps_ask.specs.Details.{IsDualFor, IsExample, last_of}
 use Rattle.ps_ask.specs.Fronts.{IsLatePart, IsShownPart}
 use Rattle.ps_ask.specs.Known.{IsProvedFor, IsProvedSide}
 
@@ -69,6 +69,12 @@ pub found_by : (p : Parts) (side : BoundSide) (q : Query) (value x : Rational) (
     → IsDualFor p side q value d
 found_by p side q value x m d a e same h =
     subst (λ (y : Rational). IsDualFor p side q y d) same (of-found p side q x m d (subst (IsFoundSide p (kind_of side) q) e h))
+
+-- the last of two duals that there is shows what both do
+pub last_shows : (p : Parts) (side : BoundSide) (q : Query) (value : Rational) (before last : Option Dual) → IfSome before (IsDualFor p side q value) → IfSome last (IsDualFor p side q value)
+    → IfSome (last_of before last) (IsDualFor p side q value)
+last_shows p side q value before (Some d) h k = k
+last_shows p side q value before None h k = h
 
 -- ---- examples
 -- no world of a distribution weighs more than all

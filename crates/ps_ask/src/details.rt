@@ -175,7 +175,8 @@ fn sides_told<W: Watch>(
 {
     match answer {
         QueryAnswer::Bounds { lower, upper, .. } => {
-            let (low, high) = (BoundSide::Lower, BoundSide::Upper);
+            let low = BoundSide::Lower;
+            let high = BoundSide::Upper;
             let below = side_details(alloc, settings, trials, query, low, lower, lines, watch)?;
             let above = side_details(alloc, settings, trials, query, high, upper, lines, watch)?;
             Ok((below, above))

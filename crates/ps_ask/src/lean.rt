@@ -171,6 +171,7 @@ fn last_of(before: Option<Dual>, last: Option<Dual>) -> Option<Dual>
 
 /// A dual that shows the same bound and has no multiplier for certainties that it doesn't need, as
 /// far as short searches tell and time is left. None where each is needed.
+#[tactic(auto, using(crate::proofs::DetailLaws::last_shows))]
 pub(crate) fn lean_dual<W: Watch>(
     alloc: Global,
     trials: &Trials<'_>,

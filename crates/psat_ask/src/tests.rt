@@ -151,11 +151,9 @@ fn details_asked(alloc: Global, words: &[&'static str]) -> Option<(bool, bool)> 
 
 #[test]
 fn what_stands_beneath_bounds_is_asked_for(rt: HostRuntime) -> Result<(), Fail> {
-    let alloc = rt.alloc();
-    assert!(rt; details_asked(alloc, &["--json", "a"]) == Some((false, false)));
-    assert!(rt; details_asked(alloc, &["--why", "a"]) == Some((true, false)));
-    assert!(rt; details_asked(alloc, &["a", "--example"]) == Some((false, true)));
-    assert!(rt; details_asked(alloc, &["--example", "--why"]) == Some((true, true)));
+    assert!(rt; details_asked(rt.alloc(), &["--why", "a"]) == Some((true, false)));
+    assert!(rt; details_asked(rt.alloc(), &["a", "--example"]) == Some((false, true)));
+    assert!(rt; details_asked(rt.alloc(), &["--example", "--why"]) == Some((true, true)));
     Ok(())
 }
 
