@@ -5,3 +5,4 @@ pub mod Values
 pub mod ExactLines
 pub mod Listed
 pub mod Beneath
+pub mod Steps

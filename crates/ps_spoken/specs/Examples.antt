@@ -1,19 +1,15 @@
 -- Distributions that reach bounds, for people.
-use Rattle.std.specs.Prelude.{ℕ, pos, ◌-◌, ◌==◌, int_le, if◌then◌else◌, Bool, List, [], ◌++◌, codes, length, take}
+use Rattle.std.specs.Prelude.{ℕ, pos, ◌-◌, ◌==◌, if◌then◌else◌, Bool, List, [], ◌++◌, codes, length, take}
 use Rattle.std.specs.Fmt.{signed_decimal}
 use Rattle.ps_meaning.specs.Rational.{Rational}
 use Rattle.ps_problem.specs.Problems.{Parts, name_at}
 use Rattle.ps_support.specs.declared.bound_side.BoundSide.{BoundSide}
 use Rattle.ps_support.specs.declared.example.Example.{Example}
 use Rattle.ps_support.specs.declared.example.Likely.{Likely}
-use Rattle.ps_spoken.specs.declared.examples.TheConstants.{LONG_DENOMINATOR, MOST_WORLDS}
-use Rattle.ps_spoken.specs.Numbers.{fraction_text, low_text}
+use Rattle.ps_spoken.specs.declared.examples.TheConstants.{MOST_WORLDS}
+use Rattle.ps_spoken.specs.Numbers.{fraction_text, is_short, low_text}
 use Rattle.ps_spoken.specs.Listings.{texts_of}
 use Rattle.ps_spoken.specs.Supports.{name_text}
-
--- a fraction whose denominator isn't long
-abbrev pub is_short : Rational → Bool
-is_short x = int_le (pos x.under) LONG_DENOMINATOR
 
 -- a probability, as a fraction where that is short, else as a decimal
 unfoldable pub about_text : ℕ → Rational → List ℕ

@@ -1,5 +1,7 @@
 -- Meaning: answers in words and numbers
 pub mod Numbers
+pub mod Digits
+pub mod Between
 pub mod Sentences
 pub mod Reached
 pub mod Supports

@@ -1,10 +1,6 @@
 -- What is written of an answer for people.
 use Rattle.std.specs.Prelude.{ℕ, pos, ◌==◌, if◌then◌else◌, List, [], ◌∷◌, ◌++◌, codes, Option}
 use Rattle.std.specs.Fmt.{signed_decimal}
-use Rattle.std.specs.declared.cmp.Ordering.{Ordering}
-use Rattle.std.specs.declared.cmp.Ordering.TheVariants.{Less, Equal, Greater}
-use Rattle.ps_meaning.specs.Rational.{Rational}
-use Rattle.ps_meaning.specs.Order.{order_of}
 use Rattle.ps_problem.specs.declared.query.Query.{Query}
 use Rattle.ps_problem.specs.Problems.{Parts}
 use Rattle.ps_canonical.specs.Lines.{probability_text}
@@ -19,7 +15,7 @@ use Rattle.ps_answer.specs.declared.answer.QueryAnswer.TheVariants as query
 use Rattle.ps_answer.specs.declared.answer.QueryPart.{QueryPart}
 use Rattle.ps_answer.specs.declared.answer.Answer.{Answer}
 use Rattle.ps_spoken.specs.declared.cause.TheConstants.{OUT_OF_TIME}
-use Rattle.ps_spoken.specs.Numbers.{fraction_text, low_text, high_text}
+use Rattle.ps_spoken.specs.Between.{between_text, least_text, most_text}
 use Rattle.ps_spoken.specs.declared.reached.Reached.{Reached}
 use Rattle.ps_spoken.specs.Reached.{lower_between, upper_between}
 use Rattle.ps_spoken.specs.declared.details.Details.{Details}
@@ -45,43 +41,18 @@ cause_text (Conflicts limit goal steps) =
     limit_text (codes "a search stopped at the limit of ") limit (codes " conflicts; allow more by --conflicts")
 cause_text (Wide at) = codes "a number needs more than 127 bits; values of fewer digits may help"
 
--- the decimals from a lower bound to an upper one
-abbrev pub decimals_text : ℕ → Rational → Rational → List ℕ
-decimals_text digits x y = codes " (" ++ (low_text digits x ++ (codes " to " ++ (high_text digits y ++ codes ")\n")))
-
--- the one value that both bounds are
-abbrev pub one_value_text : ℕ → Rational → Rational → List ℕ
-one_value_text digits x y = codes "  one value: " ++ (fraction_text x ++ decimals_text digits x y)
-
--- two bounds that differ
-abbrev pub two_values_text : ℕ → Rational → Rational → List ℕ
-two_values_text digits x y = codes "  between "
-    ++ (fraction_text x ++ (codes " and " ++ (fraction_text y ++ decimals_text digits x y)))
-
--- one value where the bounds are equal, else both of them
-abbrev pub ordered_text : Ordering → ℕ → Rational → Rational → List ℕ
-ordered_text Equal digits x y = one_value_text digits x y
-ordered_text Less digits x y = two_values_text digits x y
-ordered_text Greater digits x y = two_values_text digits x y
-
--- both bounds of a query
-abbrev pub between_text : ℕ → Rational → Rational → List ℕ
-between_text digits x y = ordered_text (order_of x y) digits x y
-
 -- what stopped a side, behind between which numbers it lies
 abbrev pub stopped_text : Cause → List ℕ
 stopped_text c = codes ": " ++ (cause_text c ++ codes "\n")
 
 -- the lower side of a query: its bound, or between which numbers it lies, and what stopped it
 abbrev pub lower_text : ℕ → SideAnswer → Option Reached → List ℕ
-lower_text digits (side.Bound x m d) r = codes "  at least "
-    ++ (fraction_text x ++ (codes " (" ++ (low_text digits x ++ codes ")\n")))
+lower_text digits (side.Bound x m d) r = least_text digits x
 lower_text digits (side.Open c) r = codes "  " ++ (lower_between digits r ++ stopped_text c)
 
 -- the upper side of a query: its bound, or between which numbers it lies, and what stopped it
 abbrev pub upper_text : ℕ → SideAnswer → Option Reached → List ℕ
-upper_text digits (side.Bound x m d) r = codes "  at most "
-    ++ (fraction_text x ++ (codes " (" ++ (high_text digits x ++ codes ")\n")))
+upper_text digits (side.Bound x m d) r = most_text digits x
 upper_text digits (side.Open c) r = codes "  " ++ (upper_between digits r ++ stopped_text c)
 
 -- each side of a query

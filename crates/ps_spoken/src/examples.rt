@@ -3,11 +3,11 @@ ghost use Rattle.std.specs.Prelude.{◌≡◌, ◌<◌, ◌≤◌};
 ghost use Rattle.ps_frac.specs.declared.limits.TheConstants.{MOST_DIGITS};
 ghost use Rattle.ps_spoken.specs.Numbers.{Puts};
 ghost use Rattle.ps_spoken.specs.Examples.{about_text, and_before, atom_names, atom_text, atoms_text};
-ghost use Rattle.ps_spoken.specs.Examples.{example_text, is_short, joined_atom, more_text, more_words};
+ghost use Rattle.ps_spoken.specs.Examples.{example_text, joined_atom, more_text, more_words};
 ghost use Rattle.ps_spoken.specs.Examples.{probability_text, some_more, world_before, world_text};
 ghost use Rattle.ps_spoken.specs.Examples.{worlds_text, worlds_word};
 
-use crate::numbers::{append, fraction, low, number};
+use crate::numbers::{append, fraction, is_short, low, number};
 use crate::supports::write_name;
 use ps_frac::Fraction;
 use ps_io::NoMemory;
@@ -16,16 +16,6 @@ use ps_support::{BoundSide, Example, Likely};
 
 /// So many worlds of a distribution are shown at most.
 pub const MOST_WORLDS: usize = 8;
-
-/// A probability whose denominator is greater is shown as a decimal.
-pub const LONG_DENOMINATOR: i128 = 1_000_000;
-
-// Whether a fraction is short.
-fn is_short(probability: &Fraction) -> bool
-    ensures { result ≡ is_short probability.now }
-{
-    probability.denominator() <= LONG_DENOMINATOR
-}
 
 // Writes a decimal in place of a fraction that isn't.
 #[tactic(auto, unfolding(crate::specs::Examples::about_text))]

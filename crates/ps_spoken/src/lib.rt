@@ -5,11 +5,13 @@
 //! without it. The same as an object of JSON, on one line, for programs.
 #![tactic(auto)]
 
+mod between;
 mod bounds;
 mod cause;
 mod clash;
 mod counts;
 mod details;
+mod digits;
 mod exact;
 mod examples;
 mod json_bounds;
@@ -32,9 +34,10 @@ mod warned;
 pub use cause::{OUT_OF_TIME, out_of_time};
 pub use clash::{Clash, Clashing, write_clash};
 pub use details::{Details, SideDetails};
+pub use digits::MORE_DIGITS;
 pub use exact::write_query_exact;
-pub use examples::{LONG_DENOMINATOR, MOST_WORLDS};
-pub use numbers::number;
+pub use examples::MOST_WORLDS;
+pub use numbers::{LONG_DENOMINATOR, number};
 pub use object::{Told, write_object};
 pub use parts::write_part;
 pub use quiet::{write_query_values, write_verdict_value};
