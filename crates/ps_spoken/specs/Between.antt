@@ -41,10 +41,12 @@ one_value_text digits x y = if decimals_first x y then long_value digits x y els
 
 -- two bounds that differ, with their decimals behind them, or before them
 abbrev pub short_values : ℕ → Rational → Rational → List ℕ
-short_values digits x y = in_two_forms (codes "  between ") (fraction_pair (codes " and ") x y) (decimal_pair digits (codes " to ") x y)
+short_values digits x y =
+    in_two_forms (codes "  between ") (fraction_pair (codes " and ") x y) (decimal_pair digits (codes " to ") x y)
 
 abbrev pub long_values : ℕ → Rational → Rational → List ℕ
-long_values digits x y = in_two_forms (codes "  between ") (decimal_pair digits (codes " and ") x y) (fraction_pair (codes " to ") x y)
+long_values digits x y =
+    in_two_forms (codes "  between ") (decimal_pair digits (codes " and ") x y) (fraction_pair (codes " to ") x y)
 
 abbrev pub two_values_text : ℕ → Rational → Rational → List ℕ
 two_values_text digits x y = if decimals_first x y then long_values digits x y else short_values digits x y

@@ -25,7 +25,8 @@ hides_order digits x y = is_lower (order_of x y) && (has_decimals x && (has_deci
 
 -- whether so many digits hide that 0 is below a bound, one bound below another, or a bound below 1
 unfoldable pub hides_distance : ℕ → Rational → Rational → Bool
-hides_distance digits x y = hides_order digits (whole (pos 0)) x || (hides_order digits x y || hides_order digits y (whole (pos 1)))
+hides_distance digits x y =
+    hides_order digits (whole (pos 0)) x || (hides_order digits x y || hides_order digits y (whole (pos 1)))
 
 -- three digits more, and so on so many times, as long as they hide that
 abbrev pub digits_from : ℕ → ℕ → Rational → Rational → ℕ

@@ -6,7 +6,7 @@ ghost use Rattle.ps_spoken.specs.Between.{fraction_pair, least_text, long_least,
 ghost use Rattle.ps_spoken.specs.Between.{long_value, long_values, most_text, one_value_text};
 ghost use Rattle.ps_spoken.specs.Between.{says_nothing, short_least, short_most, short_value};
 ghost use Rattle.ps_spoken.specs.Between.{short_values, two_values_text};
-ghost use Rattle.ps_spoken.specs.Numbers.{Says};
+ghost use Rattle.ps_spoken.specs.Numbers.{Puts, Says};
 
 use crate::digits::shown_digits;
 use crate::numbers::{append, fraction, high, is_short, low};
@@ -53,7 +53,7 @@ fn decimals(
 ) -> Result<(), NoMemory>
     requires some { 0 < digits }
     requires few { digits ≤ MOST_DIGITS }
-    ensures { Says result out.old.items out.new.items
+    ensures { Puts result out.old out.new
         (decimal_pair digits between.now lower.now upper.now) }
 {
     low(out, lower, digits)?;
