@@ -19,7 +19,7 @@ use Rattle.ps_answer.specs.declared.answer.QueryPart.{QueryPart}
 use Rattle.ps_answer.specs.declared.answer.QueryAnswer.{QueryAnswer}
 use Rattle.ps_answer.specs.declared.answer.QueryAnswer.TheVariants as query
 use Rattle.ps_answer.specs.declared.answer.SideAnswer.{SideAnswer}
-use Rattle.ps_answer.specs.declared.answer.SideAnswer.TheVariants.{Bound}
+use Rattle.ps_answer.specs.declared.answer.SideAnswer.TheVariants.{Bound, Open}
 use Rattle.ps_claims.specs.Certificates.{entries}
 use Rattle.ps_claims.specs.declared.claim_kind.ClaimKind.{ClaimKind}
 use Rattle.ps_claims.specs.declared.claim_kind.ClaimKind.TheVariants.{Lower, Upper}
@@ -30,9 +30,9 @@ use Rattle.ps_support.specs.declared.example.Example.{Example}
 use Rattle.ps_support.specs.Examples.{AreWeights, HasTotal, likely_of}
 use Rattle.ps_support.specs.Supports.{kind_of}
 use Rattle.ps_ask.specs.declared.settings.Settings.{Settings}
-use Rattle.ps_ask.specs.Details.{IsDualFor, IsExample, last_of}
+use Rattle.ps_ask.specs.Details.{HasDual, IsDualFor, IsExample, last_of}
 use Rattle.ps_ask.specs.Fronts.{IsLatePart, IsShownPart}
-use Rattle.ps_ask.specs.Known.{IsProvedFor, IsProvedSide}
+use Rattle.ps_ask.specs.Known.{IsBoundAt, IsProvedFor, IsProvedSide}
 
 -- ---- what is shown is proved
 pub proved_for : (s : Settings) (p : Parts) (q : Query) (part : QueryPart) → IsShownPart s p q part → IsProvedFor p q part.answer
@@ -65,10 +65,12 @@ pub shown_by : (p : Parts) (side : BoundSide) (q : Query) (value : Rational) (m 
     → IsDualFor p side q value d
 shown_by p side q value m d a e h = of-proved p side q value m d (subst (IsProvedSide p (kind_of side) q) e h)
 
-pub found_by : (p : Parts) (side : BoundSide) (q : Query) (value x : Rational) (m : Model) (d : Dual) (a : SideAnswer) → a ≡ Bound x m d → x ≡ value → IsFoundSide p (kind_of side) q a
-    → IsDualFor p side q value d
-found_by p side q value x m d a e same h =
-    subst (λ (y : Rational). IsDualFor p side q y d) same (of-found p side q x m d (subst (IsFoundSide p (kind_of side) q) e h))
+pub found_by : (p : Parts) (side : BoundSide) (q : Query) (value : Rational) (a : SideAnswer) (o : Option Dual) → IfSome o (HasDual a) → IsBoundAt a value → IsFoundSide p (kind_of side) q a
+    → IfSome o (IsDualFor p side q value)
+found_by p side q value (Bound x m d) (Some e) is at h =
+    subst (IsDualFor p side q value) (sym is) (subst (λ (y : Rational). IsDualFor p side q y d) at (of-found p side q x m d h))
+found_by p side q value (Open c) (Some e) is at h = absurd is
+found_by p side q value a None is at h = tt
 
 -- the last of two duals that there is shows what both do
 pub last_shows : (p : Parts) (side : BoundSide) (q : Query) (value : Rational) (before last : Option Dual) → IfSome before (IsDualFor p side q value) → IfSome last (IsDualFor p side q value)

@@ -33,6 +33,11 @@ pub record IsDualFor (p : Parts) (side : BoundSide) (q : Query) (value : Rationa
   pub shown : IsShownBy p side q value d
   pub small : IsSmallDual d
 
+-- the side is a bound, and this is its dual
+abbrev pub HasDual : SideAnswer → Dual → Type 0
+HasDual (Bound value m d) x = x ≡ d
+HasDual (Open c) x = ⊥
+
 -- the last of two that there is
 abbrev pub last_of : Option Dual → Option Dual → Option Dual
 last_of before (Some d) = Some d

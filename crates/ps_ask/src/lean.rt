@@ -3,7 +3,8 @@ ghost use Rattle.std.specs.Prelude.{◌≡◌, ◌↔◌, IfOk, IfSome, IsTrue};
 ghost use Rattle.ps_problem.specs.Problems.{HasNodes};
 ghost use Rattle.ps_support.specs.Supports.{kind_of};
 ghost use Rattle.ps_guess.specs.Trials.{IsFoundSide};
-ghost use Rattle.ps_ask.specs.Details.{IsDualFor, last_of};
+ghost use Rattle.ps_ask.specs.Details.{HasDual, IsDualFor, last_of};
+ghost use Rattle.ps_ask.specs.Known.{IsBoundAt};
 
 use ps_answer::{Dual, Model, SideAnswer, Weighted};
 use ps_claims::ClaimKind;
@@ -83,6 +84,26 @@ fn is_same(a: &Fraction, b: &Fraction) -> bool
     equal(a.numerator(), b.numerator()) && equal(a.denominator(), b.denominator())
 }
 
+// Whether a side is a bound at this value.
+fn is_at(side: &SideAnswer, value: &Fraction) -> bool
+    ensures { IsTrue result → IsBoundAt side.now value.now }
+{
+    match side {
+        SideAnswer::Bound { value: shown, .. } => is_same(shown, value),
+        SideAnswer::Open(_) => false,
+    }
+}
+
+// The dual of a side, where it is a bound.
+fn dual_in(side: SideAnswer) -> Option<Dual>
+    ensures { IfSome result (HasDual side) }
+{
+    match side {
+        SideAnswer::Bound { dual, .. } => Some(dual),
+        SideAnswer::Open(_) => None,
+    }
+}
+
 // The dual of a side that was found, where it shows this value.
 #[tactic(auto, using(crate::proofs::DetailLaws::found_by))]
 fn dual_at(
@@ -95,19 +116,10 @@ fn dual_at(
     requires found { IsFoundSide trials.now (kind_of side) query found }
     ensures { IfSome result (IsDualFor trials.now side query value.now) }
 {
-    match found {
-        SideAnswer::Bound {
-            value: shown,
-            dual,
-            ..
-        } => {
-            if is_same(&shown, value) {
-                return Some(dual);
-            }
-            None
-        }
-        SideAnswer::Open(_) => None,
+    if !is_at(&found, value) {
+        return None;
     }
+    dual_in(found)
 }
 
 // A dual of these multipliers that shows the value, where a short search refutes it.
