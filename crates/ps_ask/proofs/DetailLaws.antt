@@ -1,5 +1,5 @@
 -- What is told beneath the bounds of queries is true.
-use Rattle.std.proofs.Common.{◌≡◌, ℕ, ◌<◌, ◌≤◌, ℤ, pos, ◌<ℤ◌, ◌≤ℤ◌, ◌+ℤ◌, unsigned_abs, Bool, true, false, inl, inr, List, [], ◌∷◌, map, length, All, refl, sym, subst, arith}
+use Rattle.std.proofs.Common.{◌≡◌, pos, ◌≤ℤ◌, inl, inr, List, [], ◌∷◌, map, length, All, sym, subst, arith}
 use Rattle.std.specs.Prelude.{◌⊎◌, Option, Some, None, IfSome}
 use Rattle.std.specs.List.Sorted.{IsPermutation}
 use Rattle.std.proofs.lemmas.Int.{ints}
@@ -7,7 +7,6 @@ use Rattle.std.proofs.lemmas.List.Elements.{All-nil, All-cons, All-head, All-tai
 use Rattle.ps_meaning.specs.Distribution.{Entry, total}
 use Rattle.ps_meaning.specs.Formula.{Truth}
 use Rattle.ps_meaning.specs.Rational.{Rational}
-use Rattle.ps_meaning.specs.Wide.{Fits}
 use Rattle.ps_meaning.proofs.Weights.{total-positive, weight-nonneg}
 use Rattle.ps_problem.specs.declared.query.Query.{Query}
 use Rattle.ps_problem.specs.Problems.{Parts}

@@ -12,7 +12,6 @@ use Rattle.ps_spoken.specs.declared.details.Details.{Details}
 use Rattle.ps_ask.specs.declared.settings.Settings.{Settings}
 use Rattle.ps_ask.specs.declared.settings.Style.{Style}
 use Rattle.ps_ask.specs.declared.reply.ReplyError.{ReplyError}
-use Rattle.ps_ask.specs.declared.reply.ReplyError.TheVariants as errors
 use Rattle.ps_ask.specs.Fronts.{IsBegunText, IsShownVerdict, begun_text, parts_pieces, verdict_piece}
 use Rattle.ps_ask.specs.Replies.{ArePiecesFor, CountsShown, Ended, IsVerdictPiece}
 use Rattle.ps_ask.proofs.EndLaws.{ended_after, ended_as, nothing_appended}

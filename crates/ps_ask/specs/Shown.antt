@@ -5,7 +5,6 @@ use Rattle.ps_io.specs.LineText.{lines_bytes}
 use Rattle.ps_io.specs.Causes.{next_count}
 use Rattle.ps_io.specs.Transfer.{Appends, AppendsPrefix}
 use Rattle.ps_io.specs.declared.sink.Sink.{Ghosts}
-use Rattle.ps_io.specs.declared.source.Source as sources
 use Rattle.ps_text.specs.Positions.{Position}
 use Rattle.ps_text.specs.declared.kind.ReadKind.{ReadKind}
 use Rattle.ps_read.specs.Readings.{SpellsWhole, IsUnreadWhole}

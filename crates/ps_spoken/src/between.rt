@@ -215,11 +215,7 @@ fn write_long_least(out: &mut Vec<u8>, value: &Fraction, digits: u32) -> Result<
 }
 
 /// Writes a lower bound alone.
-pub(crate) fn write_least(
-    out: &mut Vec<u8>,
-    value: &Fraction,
-    digits: u32,
-) -> Result<(), NoMemory>
+pub(crate) fn write_least(out: &mut Vec<u8>, value: &Fraction, digits: u32) -> Result<(), NoMemory>
     requires some { 0 < digits }
     requires few { digits ≤ MOST_DIGITS }
     ensures { Says result out.old.items out.new.items (least_text digits value.now) }

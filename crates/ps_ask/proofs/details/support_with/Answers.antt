@@ -1,6 +1,6 @@
 use Rattle.std.proofs.Common.{subst, sym}
 use Rattle.std.specs.Prelude.{IfOk}
-use Rattle.ps_problem.specs.Problems.{HasNodes, Parts}
+use Rattle.ps_problem.specs.Problems.{Parts}
 use Rattle.ps_support.specs.Supports.{IsShownBy, IsSupport}
 use Rattle.ps_ask.proofs.details.support_with.Goals as goal
 
