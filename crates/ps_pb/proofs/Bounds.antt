@@ -180,6 +180,15 @@ constraint_of-normal ts least h =
       narrow = omega (arith, ints, h, within.low, within.high, terms_below-size n (coefficient_at ts), coefficient_sizes-sum ts n);
     }
 
+-- and where it is narrow itself
+pub constraint_of-normal_if : (ts : Weighted) (least : ℤ) → size_sum (weighted (constraint_of ts least).terms) + unsigned_abs (constraint_of ts least).degree ≤ 2 ^ 126 → IsNormal (weighted (constraint_of ts least).terms) (constraint_of ts least).degree
+unfolding constraint_of
+constraint_of-normal_if ts least h = record {
+  positive = terms_below-positive (last_variable ts) (coefficient_at ts);
+  rising = terms_below-rising (last_variable ts) (coefficient_at ts);
+  narrow = h;
+}
+
 pub each_once-size : (ls : List ℤ) → size_sum (each_once ls) ≡ length ls
 each_once-size [] = refl
 each_once-size (l ∷ ls) = omega (arith, each_once-size ls)

@@ -1,17 +1,17 @@
 -- Coefficients that are filled in weight by weight.
-use Rattle.std.proofs.Common.{◌≡◌, ℕ, zero, suc, ◌+◌, ◌<◌, ◌≤◌, ◌^◌, ℤ, pos, ◌+ℤ◌, ◌-ℤ◌, ◌≤ℤ◌, List, [], ◌∷◌, length, get_or, set, get_or-set_same, get_or-set_other, length-set, drop, arith, refl, ap, ◌∙◌, inl, inr, unsigned_abs, to_z, of_z}
+use Rattle.std.proofs.Common.{◌≡◌, ℕ, zero, suc, ◌+◌, ◌<◌, ◌≤◌, ◌^◌, ℤ, pos, ◌+ℤ◌, ◌-ℤ◌, neg_ℤ, ◌≤ℤ◌, Bool, true, false, cond, List, [], ◌∷◌, length, get_or, set, get_or-set_same, get_or-set_other, length-set, drop, arith, refl, ap, ◌∙◌, inl, inr, unsigned_abs, to_z, of_z}
 use mir.Syntax.{w128}
-use Rattle.std.specs.Prelude.{replicate}
+use Rattle.std.specs.Prelude.{replicate, ◌==◌}
 use Rattle.std.proofs.lemmas.List.{drop_all, length-replicate}
 use Rattle.std.proofs.lemmas.Int.{ints}
 use Rattle.std.proofs.lemmas.Bool.{cases_eq}
-use Rattle.ps_pb.specs.Assignments.{place}
+use Rattle.ps_pb.specs.Assignments.{place, is_positive}
 use Rattle.ps_pb.specs.Constraints.{Constraint}
 use Rattle.ps_pb.specs.Weights.{Weighted, size_sum, constant_of, variable_part, coefficient_at, turned, terms_below, sum_below, last_variable, constraint_of, terms_of, weighted, IsNormal}
 use Rattle.ps_pb.proofs.Linear.{coefficient-elsewhere, coefficient-own}
-use Rattle.ps_pb.proofs.Bounds.{coefficient_at-size, coefficient_sizes, coefficient_sizes-sum, constant_of-size, turned-within, turned_of, constraint_of-normal, terms_of-weighted}
+use Rattle.ps_pb.proofs.Bounds.{coefficient_sizes, coefficient_sizes-sum, constant_of-size, turned-within, turned_of, constraint_of-normal, terms_of-weighted}
 use Rattle.ps_pb.specs.Coefficients.{number_at, AreCoefficients, AreSmall}
-use Rattle.ps_pb.proofs.Summed.{drop-item, size_sum-drop, turned_low}
+use Rattle.ps_pb.proofs.Summed.{drop-item, turned_low}
 
 -- with what is left to fill in the numbers are the coefficients
 pub record AreFilled (ts rest : Weighted) (sums : List ℤ) : Type 0 where
@@ -52,14 +52,25 @@ place_within ts rest sums i t h e f =
     let now = rw d at l in
     omega (arith, now, f.length_is)
 
-pub filled_size : (ts : Weighted) (sums : List ℤ) (i : ℕ) (t : ℤ × ℤ) → i < length ts → t ≡ get_or ts i t → size_sum ts ≤ 2 ^ 125 → AreFilled ts (drop i ts) sums → unsigned_abs (number_at sums (place t.0)) + unsigned_abs t.1 < 2 ^ 127
+part_taken : (b p : Bool) (k c d : ℤ) (m n : ℕ) → unsigned_abs (c -ℤ d) + m ≤ n → unsigned_abs ((cond b (cond p k (neg_ℤ k)) (pos 0) +ℤ c) -ℤ d) + m ≤ unsigned_abs k + n
+part_taken true true k c d m n h = omega (arith, ints, h)
+part_taken true false k c d m n h = omega (arith, ints, h)
+part_taken false p k c d m n h = omega (arith, ints, h)
+
+-- the coefficient of the first items is no greater than their sizes
+taken_size : (ts : Weighted) (i q : ℕ) → unsigned_abs (coefficient_at ts q -ℤ coefficient_at (drop i ts) q) + size_sum (drop i ts) ≤ size_sum ts
+taken_size [] zero q = omega arith
+taken_size [] (suc i) q = omega arith
+taken_size (t ∷ ts) zero q = omega (arith, ints)
+taken_size (t ∷ ts) (suc i) q = part_taken (place t.0 == q) (is_positive t.0) t.1 (coefficient_at ts q) (coefficient_at (drop i ts) q) (size_sum (drop i ts)) (size_sum ts) (taken_size ts i q)
+
+pub filled_size : (ts : Weighted) (sums : List ℤ) (i : ℕ) (t : ℤ × ℤ) → i < length ts → t ≡ get_or ts i t → size_sum ts ≤ 2 ^ 126 → AreFilled ts (drop i ts) sums → unsigned_abs (number_at sums (place t.0)) + unsigned_abs t.1 < 2 ^ 127
 filled_size ts sums i t h e small f =
     let q = place t.0 in
     let each = f.each q (place_within ts (drop i ts) sums i t h e f) in
     let d = drop-item ts i t h e in
-    let s = size_sum-drop ts i in
-    let item = rw d at s in
-    omega (arith, ints, each, coefficient_at-size ts q, coefficient_at-size (drop i ts) q, s, item, small)
+    let own : unsigned_abs t.1 ≤ size_sum (drop i ts) = rw d (omega arith) in
+    omega (arith, ints, each, taken_size ts i q, own, small)
 
 pub filled_next : (ts : Weighted) (sums : List ℤ) (i : ℕ) (t : ℤ × ℤ) → i < length ts → t ≡ get_or ts i t → AreFilled ts (drop i ts) sums → AreFilled ts (drop (i + 1) ts) (set sums (place t.0) (number_at sums (place t.0) +ℤ variable_part t))
 filled_next ts sums i t h e f =

@@ -1,6 +1,6 @@
--- Each full assignment that meets the known constraints meets what a lawful step adds.
+-- Each full assignment that meets the known constraints meets the clause of a lawful step.
 use Rattle.std.proofs.Common.{◌≡◌, ℕ, zero, suc, ℤ, pos, ◌≤ℤ◌, Bool, true, false, cond, ◌&&◌, Option, Some, None, List, [], ◌∷◌, ◌++◌, length, get_or, arith, refl, ◌⊎◌, inl, inr}
-use Rattle.std.specs.Prelude.{◌==◌, nat_lt}
+use Rattle.std.specs.Prelude.{nat_lt}
 use Rattle.std.specs.List.{fold, list_any}
 use Rattle.std.proofs.lemmas.Int.{ints}
 use Rattle.std.proofs.lemmas.Bool.{cases_Bool}
@@ -8,8 +8,7 @@ use Rattle.ps_pb.specs.Assignments.{Assignment, place, value_of, is_unset, holds
 use Rattle.ps_pb.specs.Constraints.{Constraint, IsMet, slack, is_violated, some_forced}
 use Rattle.ps_pb.specs.Weights.{true_weight, each_once, clause_of}
 use Rattle.ps_pb.specs.declared.refused.StepRefused.{StepRefused}
-use Rattle.ps_pb.specs.declared.refused.StepRefused.TheVariants.{IdNotNext}
-use Rattle.ps_pb.specs.Steps.{Known, constraint_at, next_id, Step, lits_of, Propagation, Open, Conflict, Refused, at_constraint, after_hint, after_hints, and_false, all_false, end_of, from_start, IsLawful, added, with_step, is_contradiction, AreMet, AreLawful, ends_in_contradiction, Refutes, Entails}
+use Rattle.ps_pb.specs.Steps.{Known, constraint_at, Propagation, Open, Conflict, Refused, at_constraint, after_hint, after_hints, and_false, all_false, end_of, from_start, or_else, AreMet}
 use Rattle.ps_pb.proofs.Values.{Agrees, includes-refl, with_false-agrees}
 use Rattle.ps_pb.proofs.Forcing.{met-not_violated, with_forced-agrees, among-refl}
 use Rattle.ps_pb.proofs.Linear.{met-weight, weight-met}
@@ -93,16 +92,16 @@ start-agrees : (w : List Bool) (known : Known) (hints : List ℕ) (o : Option As
 start-agrees w known hints None m s e = cc
 start-agrees w known hints (Some a) m s e = ended w (after_hints known (Open a) hints) (hints-agree w known (Open a) hints m s) e
 
--- where nothing is refused, nothing is refused behind the id
-pub step_start : (b : Bool) (r : Option StepRefused) → cond b r (Some IdNotNext) ≡ None → r ≡ None
-step_start true r e = e
-step_start false r e = absurd (cc)
+-- where neither refuses, the first doesn't and the second doesn't
+pub none_refuses : (r later : Option StepRefused) → or_else r later ≡ None → (r ≡ None) × (later ≡ None)
+none_refuses None later e = (refl, e)
+none_refuses (Some why) later e = absurd (cc)
 
-pub lawful-met : (w : List Bool) (variables : ℕ) (known : Known) (s : Step) → AreMet w known → IsLawful variables known s → IsMet w (added s)
+pub clause_step-met : (w : List Bool) (variables : ℕ) (known : Known) (lits : List ℤ) (hints : List ℕ) → AreMet w known → from_start known hints (all_false variables lits) ≡ None → IsMet w (clause_of lits)
 unfolding all_false
-lawful-met w variables known s m e = elim (clause_cases w (lits_of s)) [
+clause_step-met w variables known lits hints m e = elim (clause_cases w lits) [
   | inl met ↦ met
-  | inr f ↦ absurd (start-agrees w known s.hints (all_false variables s.lits) m (fold_false-agrees w (Some (all_unset variables)) s.lits f (unset-agrees w variables)) (step_start (s.id == next_id known) _ e))
+  | inr f ↦ absurd (start-agrees w known hints (all_false variables lits) m (fold_false-agrees w (Some (all_unset variables)) lits f (unset-agrees w variables)) e)
 ]
 
 at_place : (known : Known) (o : Option Constraint) (i : ℕ) (c : Constraint) → get_or (known ++ o ∷ []) i None ≡ Some c → (get_or known i None ≡ Some c) ⊎ (o ≡ Some c)
@@ -116,34 +115,6 @@ pub constraint_at-more : (known : Known) (o : Option Constraint) (id : ℕ) (c :
 unfolding constraint_at
 constraint_at-more known o zero c e = absurd (cc)
 constraint_at-more known o (suc i) c e = at_place known o i c e
-
-pub met-more : (w : List Bool) (known : Known) (s : Step) → IsMet w (added s) → AreMet w known → AreMet w (with_step known s)
-met-more w known s h m = record {
-  at = λ id c e. elim (constraint_at-more known (Some (added s)) id c e) [
-    | inl before ↦ m.at id c before
-    | inr now ↦ (let k : added s ≡ c = cc in rw (← k) h)
-  ];
-}
-
-empty-unmet : (w : List Bool) (ls : List ℤ) → (length ls == 0) ≡ true → IsMet w (clause_of ls) → ⊥
-empty-unmet w [] e m = omega (arith, ints, met-weight w [] (pos 1) m)
-empty-unmet w (l ∷ ls) e m = grind arith
-
--- nothing meets what a contradiction adds
-pub contradiction-unmet : (w : List Bool) (s : Step) → is_contradiction s ≡ true → IsMet w (added s) → ⊥
-contradiction-unmet w s e m = empty-unmet w s.lits e m
-
-refuted : (w : List Bool) (variables : ℕ) (known : Known) (steps : List Step) → AreLawful variables known steps → ends_in_contradiction steps ≡ true → AreMet w known → ⊥
-refuted w variables known [] l e m = cc
-refuted w variables known (s ∷ []) l e m = contradiction-unmet w s e (lawful-met w variables known s m l.0)
-refuted w variables known (s ∷ t ∷ ss) l e m = refuted w variables (with_step known s) (t ∷ ss) l.1 e (met-more w known s (lawful-met w variables known s m l.0) m)
-
--- no full assignment meets what is refuted
-pub refutes-unmet : (w : List Bool) (variables : ℕ) (known : Known) (steps : List Step) → Refutes variables known steps → AreMet w known → ⊥
-refutes-unmet w variables known steps r m = refuted w variables known steps r.lawful r.contradiction m
-
-pub lawful-entails : (variables : ℕ) (known : Known) (s : Step) → IsLawful variables known s → Entails known (with_step known s)
-lawful-entails variables known s l = record { met = λ w m. met-more w known s (lawful-met w variables known s m l) m }
 
 -- a clause is met exactly where one of its literals is true
 any_weight : (w : List Bool) (ls : List ℤ) → list_any (holds w) ls ≡ true → pos 1 ≤ℤ true_weight w (each_once ls)

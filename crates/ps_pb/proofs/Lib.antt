@@ -3,6 +3,9 @@ pub mod Sums
 pub mod Forcing
 pub mod Linear
 pub mod Lawful
+pub mod Cutting
+pub mod Changed
+pub mod Entailed
 pub mod Bounds
 pub mod Places
 pub mod Setting
@@ -15,5 +18,6 @@ pub mod Clauses
 pub mod Short
 pub mod Summed
 pub mod Filling
+pub mod Added
 pub mod Searched
 pub mod Sorted

@@ -1,22 +1,24 @@
 -- How many literals and hints a lawful step has: each literal but the last hint sets a variable that had no value.
-use Rattle.std.proofs.Common.{◌≡◌, ◌≢◌, ℕ, zero, suc, ◌+◌, ◌<◌, ◌≤◌, ℤ, pos, Bool, true, not, ◌&&◌, Option, Some, None, List, [], ◌∷◌, length, get_or, set, length-set, get_or-set_same, get_or-set_other, arith, refl, sym, ap, ◌∙◌, inl, inr}
-use Rattle.std.specs.Prelude.{◌==◌, nat_lt, int_lt}
+use Rattle.std.proofs.Common.{◌≡◌, ◌≢◌, ℕ, zero, suc, ◌+◌, ◌*◌, ◌<◌, ◌≤◌, ℤ, pos, Bool, true, not, ◌&&◌, Option, Some, None, List, [], ◌∷◌, ◌++◌, length, map, unsigned_abs, get_or, set, length-set, get_or-set_same, get_or-set_other, arith, refl, sym, ap, ◌∙◌, inl, inr}
+use Rattle.std.specs.Prelude.{nat_lt, int_lt, min, option_map}
 use Rattle.std.specs.List.{All, AllPairs, fold}
-use Rattle.std.proofs.lemmas.List.Elements.{All-nil, All-cons}
+use Rattle.std.proofs.lemmas.List.Elements.{All-nil, All-cons, All-append}
 use Rattle.std.proofs.lemmas.List.Kept.{AllPairs-cons}
 use Rattle.std.proofs.lemmas.Bool.{cases_Bool, and_parts, ltb-true}
 use Rattle.ps_pb.specs.Assignments.{Assignment, place, is_positive, with_sign, value_of, with_true, with_false, is_unset, all_unset, unset_count, AreDifferent}
 use Rattle.ps_pb.specs.Constraints.{Constraint, slack, is_violated, is_forced, some_forced, with_forced}
-use Rattle.ps_pb.specs.Weights.{weighted, IsWithin}
+use Rattle.ps_pb.specs.Weights.{weighted, clause_of, IsWithin}
+use Rattle.ps_pb.specs.Cutting.{sum_of, multiple_of, over, quotient_of, saturated}
 use Rattle.ps_pb.specs.declared.refused.StepRefused.{StepRefused}
-use Rattle.ps_pb.specs.Steps.{Known, constraint_at, next_id, Step, lits_of, hints_of, Propagation, Open, Conflict, Refused, at_constraint, after_conflict, after_hint, after_hints, and_false, all_false, end_of, from_start, IsLawful, added, with_step, AreWithin}
+use Rattle.ps_pb.specs.Steps.{Known, constraint_at, Step, Clause, Delete, Add, Multiply, Divide, Saturate, lits_of, hints_of, Propagation, Open, Conflict, Refused, at_constraint, after_conflict, after_hint, after_hints, and_false, all_false, end_of, from_start, id_refusal, IsLawful, sum_if, added, with_step, AreWithin}
 use Rattle.ps_pb.proofs.Values.{unset-is}
 use Rattle.ps_pb.proofs.Forcing.{next_forced}
 use Rattle.ps_pb.proofs.Places.{after_hints-refused, and_false-none}
 use Rattle.ps_pb.proofs.Setting.{length-forced, length_next}
-use Rattle.ps_pb.proofs.Lawful.{constraint_at-more, step_start}
+use Rattle.ps_pb.proofs.Lawful.{constraint_at-more, none_refuses}
+use Rattle.ps_pb.proofs.Entailed.{constraint_at-left}
 use Rattle.ps_pb.proofs.Full.{Below, all-head, all-rest}
-use Rattle.ps_pb.proofs.Within.{clause-within}
+use Rattle.ps_pb.proofs.Within.{constraint-within, clause-within}
 
 -- one variable without a value fewer
 pub one_less : (a : Assignment) (i : ℕ) (b : Bool) → get_or a i None ≡ None → i < length a → suc (unset_count (set a i (Some b))) ≡ unset_count a
@@ -189,37 +191,81 @@ started : (known : Known) (hints : List ℕ) (o : Option Assignment) → from_st
 started known hints None e = absurd (cc)
 started known hints (Some a) e = (a, refl, ended (after_hints known (Open a) hints) e)
 
-pub lawful-start : (v : ℕ) (known : Known) (s : Step) → IsLawful v known s → (a : Assignment) × (all_false v (lits_of s) ≡ Some a) × (after_hints known (Open a) (hints_of s) ≡ Conflict)
-lawful-start v known s e = started known (hints_of s) (all_false v (lits_of s)) (step_start (s.id == next_id known) _ e)
+pub lawful-start : (v g : ℕ) (known : Known) (id : ℕ) (lits : List ℤ) (hints : List ℕ) → IsLawful v g known (Clause id lits hints) → (a : Assignment) × (all_false v lits ≡ Some a) × (after_hints known (Open a) hints ≡ Conflict)
+lawful-start v g known id lits hints e = started known hints (all_false v lits) (none_refuses (id_refusal known id) _ e).1
 
 all-set : (v : ℕ) (a : Assignment) (ls : List ℤ) → all_false v ls ≡ Some a → WereSet (all_unset v) a ls
 unfolding all_false
 all-set v a ls e = were_set (all_unset v) a ls e
 
-pub lawful-short : (v : ℕ) (known : Known) (s : Step) → AreWithin v known → IsLawful v known s → length (lits_of s) + length (hints_of s) ≤ v + 1
-lawful-short v known s h e =
-    let run = lawful-start v known s e in
-    let w = all-set v run.0 (lits_of s) run.1 in
+pub lawful-short : (v g : ℕ) (known : Known) (s : Step) → AreWithin v known → IsLawful v g known s → length (lits_of s) + length (hints_of s) ≤ v + 1
+lawful-short v g known (Clause id lits hints) h e =
+    let run = lawful-start v g known id lits hints e in
+    let w = all-set v run.0 lits run.1 in
     let len : length run.0 ≡ v = w.length_is ∙ length-unset v in
-    omega (arith, w.count, unset-all v, few-hints known run.0 (hints_of s) (rw len h) run.2)
+    omega (arith, w.count, unset-all v, few-hints known run.0 hints (rw len h) run.2)
+lawful-short v g known (Delete id) h e = omega arith
+lawful-short v g known (Add id left right) h e = omega arith
+lawful-short v g known (Multiply id of by) h e = omega arith
+lawful-short v g known (Divide id of by) h e = omega arith
+lawful-short v g known (Saturate id of) h e = omega arith
 
-pub lawful-within : (v : ℕ) (known : Known) (s : Step) → IsLawful v known s → All (In v) (lits_of s)
-lawful-within v known s e =
-    let run = lawful-start v known s e in
-    rw (length-unset v) at (all-set v run.0 (lits_of s) run.1).within
+lits_within : (v g : ℕ) (known : Known) (id : ℕ) (lits : List ℤ) (hints : List ℕ) → IsLawful v g known (Clause id lits hints) → All (In v) lits
+lits_within v g known id lits hints e =
+    let run = lawful-start v g known id lits hints e in
+    rw (length-unset v) at (all-set v run.0 lits run.1).within
 
 all-different : (v : ℕ) (a : Assignment) (ls : List ℤ) → all_false v ls ≡ Some a → AreDifferent ls
 unfolding all_false
 all-different v a ls h = (set_different (all_unset v) a ls h).1
 
-pub lawful-different : (v : ℕ) (known : Known) (s : Step) → IsLawful v known s → AreDifferent (lits_of s)
-lawful-different v known s e = let run = lawful-start v known s e in all-different v run.0 (lits_of s) run.1
+none_different : AreDifferent []
+none_different = λ i j d lt below. absurd (omega (arith, below))
 
--- what is known after it is within the variables
-pub within-more : (v : ℕ) (known : Known) (s : Step) → AreWithin v known → IsLawful v known s → AreWithin v (with_step known s)
-within-more v known s h e = record {
-  at = λ id c k. elim (constraint_at-more known (Some (added s)) id c k) [
+pub lawful-different : (v g : ℕ) (known : Known) (s : Step) → IsLawful v g known s → AreDifferent (lits_of s)
+lawful-different v g known (Clause id lits hints) e = let run = lawful-start v g known id lits hints e in all-different v run.0 lits run.1
+lawful-different v g known (Delete id) e = none_different
+lawful-different v g known (Add id left right) e = none_different
+lawful-different v g known (Multiply id of by) e = none_different
+lawful-different v g known (Divide id of by) e = none_different
+lawful-different v g known (Saturate id of) e = none_different
+
+-- ---- what is known after it is within the variables
+-- the constraint is of these variables if there is one
+abbrev pub IsWithinIf : ℕ → Option Constraint → Type 0
+IsWithinIf v o = (c : Constraint) → o ≡ Some c → IsWithin v c
+
+some_within : (v : ℕ) (c : Constraint) → IsWithin v c → IsWithinIf v (Some c)
+some_within v c h d e = let q : c ≡ d = cc e in rw (← q) h
+
+none_within : (v : ℕ) → IsWithinIf v None
+none_within v d e = absurd (cc)
+
+sum_within : (v : ℕ) (o p : Option Constraint) → IsWithinIf v o → IsWithinIf v p → IsWithinIf v (sum_if o p)
+sum_within v None p m n = none_within v
+sum_within v (Some c) None m n = none_within v
+sum_within v (Some c) (Some d) m n = some_within v (sum_of c d) (constraint-within v (weighted c.terms ++ weighted d.terms) _ (All-append (Below v) (weighted c.terms) (weighted d.terms) (m c refl) (n d refl)))
+
+changed_within : (v : ℕ) (f : ℕ → ℕ) (ts : List (ℤ × ℕ)) → All (Below v) (weighted ts) → All (Below v) (weighted (map (λ t. (t.0, f t.1)) ts))
+changed_within v f [] h = All-nil (Below v)
+changed_within v f (t ∷ ts) h = All-cons (Below v) (t.0, pos (f t.1)) _ (all-head v t ts h) (changed_within v f ts (all-rest v t ts h))
+
+option_within : (v : ℕ) (f : Constraint → Constraint) (o : Option Constraint) → ((c : Constraint) → IsWithin v c → IsWithin v (f c)) → IsWithinIf v o → IsWithinIf v (option_map f o)
+option_within v f None keep m = none_within v
+option_within v f (Some c) keep m = some_within v (f c) (keep c (m c refl))
+
+within-append : (v : ℕ) (known : Known) (o : Option Constraint) → AreWithin v known → IsWithinIf v o → AreWithin v (known ++ o ∷ [])
+within-append v known o h m = record {
+  at = λ id c k. elim (constraint_at-more known o id c k) [
     | inl before ↦ h.at id c before
-    | inr now ↦ (let q : added s ≡ c = cc now in rw (← q) (clause-within v (lits_of s) (lawful-within v known s e)))
+    | inr now ↦ m c now
   ];
 }
+
+pub within-more : (v g : ℕ) (known : Known) (s : Step) → AreWithin v known → IsLawful v g known s → AreWithin v (with_step known s)
+within-more v g known (Clause id lits hints) h e = within-append v known (Some (clause_of lits)) h (some_within v (clause_of lits) (clause-within v lits (lits_within v g known id lits hints e)))
+within-more v g known (Delete id) h e = record { at = λ i c k. h.at i c (constraint_at-left known id i c k) }
+within-more v g known (Add id left right) h e = within-append v known (added known (Add id left right)) h (sum_within v (constraint_at known left) (constraint_at known right) (h.at left) (h.at right))
+within-more v g known (Multiply id of by) h e = within-append v known (added known (Multiply id of by)) h (option_within v (multiple_of (unsigned_abs by)) (constraint_at known of) (λ c w. changed_within v (λ k. k * unsigned_abs by) c.terms w) (h.at of))
+within-more v g known (Divide id of by) h e = within-append v known (added known (Divide id of by)) h (option_within v (quotient_of (unsigned_abs by)) (constraint_at known of) (λ c w. changed_within v (λ k. over k (unsigned_abs by)) c.terms w) (h.at of))
+within-more v g known (Saturate id of) h e = within-append v known (added known (Saturate id of)) h (option_within v saturated (constraint_at known of) (λ c w. changed_within v (λ k. min (unsigned_abs c.degree) k) c.terms w) (h.at of))

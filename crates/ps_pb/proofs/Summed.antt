@@ -1,12 +1,13 @@
 -- Sums over a list, one item on.
-use Rattle.std.proofs.Common.{◌≡◌, ℕ, zero, suc, ◌+◌, ◌<◌, ◌≤◌, ◌^◌, ℤ, pos, ◌+ℤ◌, ◌≤ℤ◌, Bool, true, false, cond, List, [], ◌∷◌, length, get_or, drop, drop-cons, arith, refl, sym, ap, ◌∙◌, subst, unsigned_abs}
+use Rattle.std.proofs.Common.{◌≡◌, ℕ, zero, suc, ◌+◌, ◌<◌, ◌≤◌, ◌^◌, ℤ, pos, ◌+ℤ◌, ◌-ℤ◌, ◌≤ℤ◌, Bool, true, false, cond, List, [], ◌∷◌, length, get_or, drop, drop-cons, arith, refl, sym, ap, ◌∙◌, subst, unsigned_abs}
 use Rattle.std.specs.List.{All}
 use Rattle.std.proofs.lemmas.Int.{ints}
 use Rattle.std.proofs.lemmas.List.{drop_all}
 use Rattle.std.proofs.lemmas.List.Elements.{All-head, All-tail}
+use Rattle.ps_pb.specs.Assignments.{is_positive}
 use Rattle.ps_pb.specs.Constraints.{sum_where}
 use Rattle.ps_pb.specs.Weights.{Weighted, size_sum, constant_part, constant_of, turned, sum_below, terms_of, weighted}
-use Rattle.ps_pb.proofs.Bounds.{constant_of-size, IsPositive}
+use Rattle.ps_pb.proofs.Bounds.{IsPositive}
 use Rattle.ps_pb.specs.Coefficients.{number_at, AreSmall}
 
 -- what is left at a place begins with the item there
@@ -43,7 +44,18 @@ sum_where-size f (t ∷ ts) = omega (arith, where_part (f t.0) (unsigned_abs t.1
 pub record NextConstant (ts : Weighted) (i : ℕ) (s k : ℤ) : Type 0 where
   pub so_far : (s +ℤ k) +ℤ constant_of (drop (i + 1) ts) ≡ constant_of ts
   pub part : unsigned_abs k ≤ size_sum ts
-  pub size : unsigned_abs (s +ℤ k) ≤ size_sum ts + size_sum ts
+  pub size : unsigned_abs (s +ℤ k) ≤ size_sum ts
+
+-- the constant of the first items is no greater than their sizes
+constant_part_of : (b : Bool) (k c d : ℤ) (m n : ℕ) → unsigned_abs (c -ℤ d) + m ≤ n → unsigned_abs ((cond b (pos 0) k +ℤ c) -ℤ d) + m ≤ unsigned_abs k + n
+constant_part_of true k c d m n h = omega (arith, ints, h)
+constant_part_of false k c d m n h = omega (arith, ints, h)
+
+constant_taken : (ts : Weighted) (i : ℕ) → unsigned_abs (constant_of ts -ℤ constant_of (drop i ts)) + size_sum (drop i ts) ≤ size_sum ts
+constant_taken [] zero = omega arith
+constant_taken [] (suc i) = omega arith
+constant_taken (t ∷ ts) zero = omega (arith, ints)
+constant_taken (t ∷ ts) (suc i) = constant_part_of (is_positive t.0) t.1 (constant_of ts) (constant_of (drop i ts)) (size_sum (drop i ts)) (size_sum ts) (constant_taken ts i)
 
 constant_size : (b : Bool) (k : ℤ) → unsigned_abs (cond b (pos 0) k) ≤ unsigned_abs k
 constant_size true k = omega arith
@@ -63,7 +75,7 @@ next_constant ts i t s k h e inv q =
     record {
       so_far = so_far;
       part = omega (arith, part, item);
-      size = omega (arith, ints, so_far, constant_of-size ts, constant_of-size (drop (i + 1) ts), size_sum-drop ts (i + 1));
+      size = omega (arith, ints, so_far, constant_taken ts (i + 1));
     }
 
 -- the sum of the terms that pass a test, one term on
@@ -98,20 +110,20 @@ pub record NextTurned (sums : List ℤ) (i : ℕ) (s k : ℤ) : Type 0 where
   pub so_far : (s +ℤ k) ≡ sum_below (i + 1) (λ p. turned (number_at sums p))
   pub low : pos 0 ≤ℤ s
   pub part : pos 0 ≤ℤ k
-  pub high : (s +ℤ k) ≤ℤ pos (2 ^ 125)
+  pub high : (s +ℤ k) ≤ℤ pos (2 ^ 126)
 
 turned_size : (z : ℤ) → (pos 0 ≤ℤ turned z) × (turned z ≤ℤ pos (unsigned_abs z))
 turned_size (pos k) = (omega (arith, ints), omega (arith, ints))
 turned_size z = (omega (arith, ints), omega (arith, ints))
 
-turned_sizes : (n : ℕ) (f : ℕ → ℤ) → (pos 0 ≤ℤ sum_below n (λ p. turned (f p))) × (sum_below n (λ p. turned (f p)) ≤ℤ sum_below n (λ p. pos (unsigned_abs (f p))))
+pub turned_sizes : (n : ℕ) (f : ℕ → ℤ) → (pos 0 ≤ℤ sum_below n (λ p. turned (f p))) × (sum_below n (λ p. turned (f p)) ≤ℤ sum_below n (λ p. pos (unsigned_abs (f p))))
 turned_sizes zero f = (omega (arith, ints), omega (arith, ints))
 turned_sizes (suc p) f =
     let r = turned_sizes p f in
     let t = turned_size (f p) in
     (omega (arith, ints, r.0, t.0), omega (arith, ints, r.1, t.1))
 
-pub at_size : (sums : List ℤ) (i : ℕ) → i < length sums → AreSmall sums → unsigned_abs (number_at sums i) ≤ 2 ^ 125
+pub at_size : (sums : List ℤ) (i : ℕ) → i < length sums → AreSmall sums → unsigned_abs (number_at sums i) ≤ 2 ^ 126
 at_size sums i h small =
     let below = small.below (suc i) (omega arith) in
     let r = turned_sizes i (number_at sums) in

@@ -3,7 +3,7 @@ use Rattle.std.specs.Prelude.{◌≡◌, ◌+◌, ◌<◌, ◌≤◌, ◌^◌, �
 use Rattle.std.specs.Prelude.{◌+ℤ◌, ◌≤ℤ◌, unsigned_abs, List, length, slice_index_or, slice_set}
 use Rattle.ps_pb.specs.Assignments.{place}
 use Rattle.ps_pb.specs.Weights.{Weighted, coefficient_at, variable_part, last_variable, sum_below, terms_below, weighted}
-use Rattle.ps_pb.specs.Limits.{most_weight}
+use Rattle.ps_pb.specs.declared.limits.TheConstants.{MOST_SIZE}
 
 -- the number at a place, or 0 past the end
 abbrev pub number_at : List ℤ → ℕ → ℤ
@@ -26,6 +26,6 @@ pub record AreCoefficients (ts : Weighted) (sums : List ℤ) : Type 0 where
   pub length_is : length sums ≡ last_variable ts
   pub each : (p : ℕ) → p < length sums → number_at sums p ≡ coefficient_at ts p
 
--- the sizes of the first numbers, however many, sum to at most the limit of weights
+-- the sizes of the first numbers, however many, sum to at most the limit of constraints
 pub record AreSmall (sums : List ℤ) : Type 0 where
-  pub below : (n : ℕ) → n ≤ length sums → sum_below n (λ p. pos (unsigned_abs (number_at sums p))) ≤ℤ pos most_weight
+  pub below : (n : ℕ) → n ≤ length sums → sum_below n (λ p. pos (unsigned_abs (number_at sums p))) ≤ℤ pos MOST_SIZE

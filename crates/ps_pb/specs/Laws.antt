@@ -1,12 +1,13 @@
 -- What holds of constraints and steps.
-use Rattle.std.specs.Prelude.{ℕ, ◌+◌, ◌<◌, ◌≤◌, ◌≡◌, ℤ, pos, ◌-ℤ◌, ◌≤ℤ◌, Bool, true, false}
+use Rattle.std.specs.Prelude.{ℕ, ◌+◌, ◌<◌, ◌≤◌, ◌≡◌, ◌==◌, ℤ, pos, ◌-ℤ◌, ◌≤ℤ◌, Bool, true, false}
 use Rattle.std.specs.Prelude.{Some, None, List, [], ◌∷◌, ◌++◌, length, filter, All, ◌⊎◌, ◌↔◌}
 use Rattle.std.specs.List.{list_any}
 use Rattle.ps_pb.specs.declared.refused.StepRefused.{StepRefused}
 use Rattle.ps_pb.specs.Assignments.{Assignment, place, value_of, holds, full, values_of, IsComplete, AreDifferent}
 use Rattle.ps_pb.specs.Constraints.{Constraint, IsMet, is_open, slack, is_violated, with_forced, Forces, Covers}
 use Rattle.ps_pb.specs.Weights.{Weighted, true_weight, constraint_of, clause_of, weighted, IsWithin, IsPlain, IsNormal}
-use Rattle.ps_pb.specs.Steps.{Known, Step, id_of, lits_of, hints_of, AreWithin, refusal_of}
+use Rattle.ps_pb.specs.Cutting.{sum_of, multiple_of, quotient_of, saturated, is_contradictory}
+use Rattle.ps_pb.specs.Steps.{Known, constraint_at, Step, number_of, lits_of, hints_of, AreWithin, refusal_of}
 use Rattle.ps_pb.specs.Steps.{IsLawful, added, with_step, with_steps, is_contradiction, AreLawful, ends_in_contradiction}
 use Rattle.ps_pb.specs.Steps.{or_later, first_refusal, Refutes, AreMet, Entails, IsUnmet}
 
@@ -64,15 +65,41 @@ ForcedAreSet = (c : Constraint) (a : Assignment) (l : ℤ) → IsNormal (weighte
     → Forces c a l
     → value_of (with_forced (slack c a) c.terms a) l ≡ Some true
 
+-- ---- new constraints from others
+-- what meets two constraints meets their sum
+abbrev pub SumsAreMet : Type 0
+SumsAreMet = (w : List Bool) (c d : Constraint) → IsMet w c → IsMet w d → IsMet w (sum_of c d)
+
+-- what meets a constraint meets its multiples
+abbrev pub MultiplesAreMet : Type 0
+MultiplesAreMet = (w : List Bool) (k : ℕ) (c : Constraint) → IsMet w c → IsMet w (multiple_of k c)
+
+-- what meets a constraint meets its quotients, rounded up
+abbrev pub QuotientsAreMet : Type 0
+QuotientsAreMet = (w : List Bool) (k : ℕ) (c : Constraint) → 0 < k → IsMet w c → IsMet w (quotient_of k c)
+
+-- what meets a constraint meets it with its coefficients lowered to the degree
+abbrev pub SaturatedAreMet : Type 0
+SaturatedAreMet = (w : List Bool) (c : Constraint) → IsMet w c → IsMet w (saturated c)
+
+-- nothing meets a constraint whose coefficients sum to less than its degree
+abbrev pub ContradictionsAreUnmet : Type 0
+ContradictionsAreUnmet = (w : List Bool) (c : Constraint) → is_contradictory c ≡ true → ¬ IsMet w c
+
+-- of clauses these are the ones without literals
+abbrev pub EmptyClausesContradict : Type 0
+EmptyClausesContradict = (lits : List ℤ) → is_contradictory (clause_of lits) ≡ (length lits == 0)
+
 -- ---- steps
 -- what meets the known constraints meets what a lawful step adds
 abbrev pub StepsFollow : Type 0
-StepsFollow = (w : List Bool) (variables : ℕ) (known : Known) (s : Step) → AreMet w known → IsLawful variables known s
-    → IsMet w (added s)
+StepsFollow = (w : List Bool) (variables given : ℕ) (known : Known) (s : Step) (c : Constraint) → AreMet w known
+    → IsLawful variables given known s → added known s ≡ Some c → IsMet w c
 
--- what is known with a lawful step follows from what was known before it
+-- what is known after a lawful step follows from what was known before it
 abbrev pub StepsAreEntailed : Type 0
-StepsAreEntailed = (variables : ℕ) (known : Known) (s : Step) → IsLawful variables known s → Entails known (with_step known s)
+StepsAreEntailed = (variables given : ℕ) (known : Known) (s : Step) → IsLawful variables given known s
+    → Entails known (with_step known s)
 
 -- what is known after a list of lawful steps follows from what was known before
 abbrev pub ListsAreEntailed : Type 0
@@ -83,26 +110,28 @@ ListsAreEntailed = (variables : ℕ) (known : Known) (ss : List Step) → AreLaw
 abbrev pub FollowingIsTransitive : Type 0
 FollowingIsTransitive = (first known later : Known) → Entails first known → Entails known later → Entails first later
 
--- nothing meets a contradiction
-abbrev pub ContradictionsAreUnmet : Type 0
-ContradictionsAreUnmet = (w : List Bool) (s : Step) → is_contradiction s ≡ true → ¬ IsMet w (added s)
-
 -- nothing meets known constraints that lawful steps refute
 abbrev pub RefutedAreUnmet : Type 0
 RefutedAreUnmet = (variables : ℕ) (known : Known) (steps : List Step) → Refutes variables known steps → IsUnmet known
 
--- a list of steps is lawful with one more behind it where it is lawful and the step is lawful after it
-abbrev pub OneMoreIsLawful : Type 0
-OneMoreIsLawful = (variables : ℕ) (known : Known) (ss : List Step) (s : Step)
-    → AreLawful variables known (ss ++ s ∷ []) ↔ (AreLawful variables known ss × IsLawful variables (with_steps known ss) s)
+-- what was known before the first step still stands after lawful steps
+abbrev pub GivenStay : Type 0
+GivenStay = (variables : ℕ) (known : Known) (ss : List Step) (id : ℕ) (c : Constraint) → AreLawful variables known ss
+    → id ≤ length known → constraint_at known id ≡ Some c → constraint_at (with_steps known ss) id ≡ Some c
 
--- one more step in a list adds one constraint behind the others
+-- a list of steps is lawful with one more step behind it where it is lawful and the step is lawful after it
+abbrev pub OneMoreIsLawful : Type 0
+OneMoreIsLawful = (variables : ℕ) (known : Known) (ss : List Step) (s : Step) → AreLawful variables known (ss ++ s ∷ [])
+    ↔ (AreLawful variables known ss × IsLawful variables (length known) (with_steps known ss) s)
+
+-- what is known after a list with one more step is what is known after that step
 abbrev pub OneMoreIsKnown : Type 0
 OneMoreIsKnown = (known : Known) (ss : List Step) (s : Step) → with_steps known (ss ++ s ∷ []) ≡ with_step (with_steps known ss) s
 
--- a list with one more step ends in a contradiction exactly where that step is one
+-- a list with one more step ends in a contradiction exactly where that step adds one
 abbrev pub OneMoreEnds : Type 0
-OneMoreEnds = (ss : List Step) (s : Step) → ends_in_contradiction (ss ++ s ∷ []) ≡ is_contradiction s
+OneMoreEnds = (known : Known) (ss : List Step) (s : Step)
+    → ends_in_contradiction known (ss ++ s ∷ []) ≡ is_contradiction (with_steps known ss) s
 
 -- no step of a list is refused where all are lawful, and nowhere else
 abbrev pub NoneIsRefused : Type 0
@@ -112,7 +141,8 @@ NoneIsRefused = (variables : ℕ) (known : Known) (ss : List Step)
 -- after lawful steps the first refusal is that of the step behind them
 abbrev pub OneMoreIsRefused : Type 0
 OneMoreIsRefused = (variables : ℕ) (known : Known) (ss : List Step) (s : Step) → AreLawful variables known ss
-    → first_refusal variables known (ss ++ s ∷ []) ≡ or_later (id_of s) (refusal_of variables (with_steps known ss) s) None
+    → first_refusal variables known (ss ++ s ∷ []) ≡ or_later (number_of (with_steps known ss) s)
+    (refusal_of variables (length known) (with_steps known ss) s) None
 
 -- a refusal among the first steps stays the first with one more step behind them
 abbrev pub RefusalsStay : Type 0
@@ -122,14 +152,14 @@ RefusalsStay = (variables : ℕ) (known : Known) (ss : List Step) (s : Step) (r 
 
 -- a lawful step has literals of different variables
 abbrev pub LiteralsDiffer : Type 0
-LiteralsDiffer = (variables : ℕ) (known : Known) (s : Step) → IsLawful variables known s → AreDifferent (lits_of s)
+LiteralsDiffer = (variables given : ℕ) (known : Known) (s : Step) → IsLawful variables given known s → AreDifferent (lits_of s)
 
--- where the known constraints are of the variables, what a lawful step adds is
+-- where the known constraints are of the variables, they are after a lawful step
 abbrev pub StepsStayWithin : Type 0
-StepsStayWithin = (variables : ℕ) (known : Known) (s : Step) → AreWithin variables known → IsLawful variables known s
-    → AreWithin variables (with_step known s)
+StepsStayWithin = (variables given : ℕ) (known : Known) (s : Step) → AreWithin variables known
+    → IsLawful variables given known s → AreWithin variables (with_step known s)
 
 -- after constraints of the variables a lawful step has at most one more literals and hints, together, than there are variables
 abbrev pub StepsAreShort : Type 0
-StepsAreShort = (variables : ℕ) (known : Known) (s : Step) → AreWithin variables known → IsLawful variables known s
-    → (length (lits_of s) + length (hints_of s)) ≤ (variables + 1)
+StepsAreShort = (variables given : ℕ) (known : Known) (s : Step) → AreWithin variables known
+    → IsLawful variables given known s → (length (lits_of s) + length (hints_of s)) ≤ (variables + 1)

@@ -3,6 +3,7 @@ pub mod Limits
 pub mod Assignments
 pub mod Constraints
 pub mod Weights
+pub mod Cutting
 pub mod Steps
 pub mod Effects
 pub mod Weighing
@@ -10,3 +11,6 @@ pub mod Weighing
 pub mod Laws
 -- Bridge: the coefficients that are filled in weight by weight
 pub mod Coefficients
+-- Bridge: what is done to each coefficient, and coefficients that are added
+pub mod Changes
+pub mod Adding

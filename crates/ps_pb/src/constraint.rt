@@ -4,6 +4,7 @@ ghost use Rattle.std.specs.Prelude.{IsTrue, IsSome, IfSome, IfOk};
 ghost use Rattle.ps_pb.specs.Weights.{are_rising, weighted, terms_of, IsNormal};
 ghost use Rattle.ps_pb.specs.declared.limits.TheConstants.{MOST_SIZE};
 ghost use Rattle.ps_pb.specs.Weighing.{linear};
+ghost use Rattle.ps_pb.specs.Cutting.{IsNarrow};
 
 use crate::limits::MOST_SIZE;
 use crate::lit::Lit;
@@ -67,6 +68,7 @@ impl Constraint {
     pub fn degree(&self) -> i128
         ensures value { result ≡ self.now.degree }
         ensures within { unsigned_abs result ≤ MOST_SIZE }
+        ensures narrow { IsNarrow self.now }
     {
         self.degree
     }

@@ -5,19 +5,32 @@ ghost use Rattle.ps_pb.specs.Laws.{FullKeepValues, FullMeetOrViolate, SlackFalls
 ghost use Rattle.ps_pb.specs.Laws.{ForcedStay, ForcedAreSet, StepsFollow, StepsAreEntailed};
 ghost use Rattle.ps_pb.specs.Laws.{ContradictionsAreUnmet, RefutedAreUnmet, OneMoreIsLawful};
 ghost use Rattle.ps_pb.specs.Laws.{OneMoreIsKnown, OneMoreEnds, NoneIsRefused, OneMoreIsRefused};
-ghost use Rattle.ps_pb.specs.Laws.{ListsAreEntailed, FollowingIsTransitive};
+ghost use Rattle.ps_pb.specs.Laws.{ListsAreEntailed, FollowingIsTransitive, GivenStay};
 ghost use Rattle.ps_pb.specs.Laws.{RefusalsStay, LiteralsDiffer, StepsStayWithin, StepsAreShort};
+ghost use Rattle.ps_pb.specs.Laws.{SumsAreMet, MultiplesAreMet, QuotientsAreMet, SaturatedAreMet};
+ghost use Rattle.ps_pb.specs.Laws.{EmptyClausesContradict};
 
-/// A full assignment that meets the known constraints meets what each lawful step adds. Nothing
-/// meets what a contradiction adds, so after a lawful contradiction no full assignment meets the
-/// known constraints.
+/// A full assignment that meets the known constraints meets what each lawful step adds, so after
+/// lawful steps of which the last adds a contradiction no full assignment meets them.
 pub fn lawful_steps_follow()
     ensures step { StepsFollow }
     ensures entailed { StepsAreEntailed }
     ensures list { ListsAreEntailed }
     ensures onward { FollowingIsTransitive }
-    ensures contradiction { ContradictionsAreUnmet }
     ensures refuted { RefutedAreUnmet }
+    ensures given { GivenStay }
+{}
+
+/// A full assignment that meets constraints meets their sum, multiples, quotients rounded up, and
+/// what is saturated. It doesn't meet a constraint whose coefficients sum to less than its degree;
+/// of clauses this is the one without literals.
+pub fn cutting_planes_follow()
+    ensures sum { SumsAreMet }
+    ensures multiple { MultiplesAreMet }
+    ensures quotient { QuotientsAreMet }
+    ensures saturated { SaturatedAreMet }
+    ensures contradiction { ContradictionsAreUnmet }
+    ensures empty { EmptyClausesContradict }
 {}
 
 /// The constraint of weighted literals is met by exactly the full assignments whose true literals

@@ -2,7 +2,9 @@
 //! words in which contracts speak of them.
 #![tactic(auto)]
 
+mod adding;
 mod assignment;
+mod changing;
 mod constraint;
 mod known;
 mod laws;
@@ -14,12 +16,14 @@ mod step;
 mod terms;
 mod weights;
 
+pub use adding::sum_of;
 pub use assignment::Assignment;
+pub use changing::{is_contradictory, multiple, quotient, saturation};
 pub use constraint::Constraint;
 pub use known::constraint_at;
 pub use laws::{
-    clauses_count_literals, full_assignments_decide, lawful_steps_are_short, lawful_steps_follow,
-    one_more_step, propagation_is_monotone, weights_are_bounded,
+    clauses_count_literals, cutting_planes_follow, full_assignments_decide, lawful_steps_are_short,
+    lawful_steps_follow, one_more_step, propagation_is_monotone, weights_are_bounded,
 };
 pub use limits::{MOST_IDS, MOST_SIZE, MOST_VARIABLES, limits_have_these_numbers};
 pub use lit::Lit;

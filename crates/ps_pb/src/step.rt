@@ -1,7 +1,6 @@
 //! The steps of a refutation.
 use crate::lit::Lit;
 use ps_io::List;
-use std::marker::Model;
 
 /// Literals, in order.
 pub type Lits = List<Lit>;
@@ -12,22 +11,55 @@ pub type Hints = List<u64>;
 /// Steps, in order.
 pub type Steps = List<Step>;
 
-/// A clause under its id, and the ids of the constraints from which it follows, in the order in
-/// which they are used.
+/// A step of a refutation. Each but `Delete` adds a constraint under its id.
 #[derive(Drop)]
-pub struct Step {
-    /// The id of the clause.
-    pub id: u64,
-    /// The literals of the clause.
-    pub lits: Lits,
-    /// The ids of the constraints from which it follows, in the order in which they are used.
-    pub hints: Hints,
-}
-
-impl Model for Step {
-    ghost use Rattle.ps_pb.specs.Steps.{Step as StepValue};
-
-    ghost Value = { StepValue };
-
-    ghost view = { λ s. record { id = s.id; lits = s.lits; hints = s.hints } };
+pub enum Step {
+    /// A clause that follows by propagation along the hints.
+    Clause {
+        /// The id of the clause.
+        id: u64,
+        /// The literals of the clause.
+        lits: Lits,
+        /// The ids of the constraints from which it follows, in the order in which they are used.
+        hints: Hints,
+    },
+    /// The constraint of an earlier step no longer stands.
+    Delete {
+        /// The id of that constraint.
+        id: u64,
+    },
+    /// The sum of two constraints.
+    Add {
+        /// The id of the sum.
+        id: u64,
+        /// The id of the one.
+        left: u64,
+        /// The id of the other.
+        right: u64,
+    },
+    /// A constraint times a number.
+    Multiply {
+        /// The id of the multiple.
+        id: u64,
+        /// The id of the constraint.
+        of: u64,
+        /// The number.
+        by: i128,
+    },
+    /// A constraint over a number, rounded up.
+    Divide {
+        /// The id of the quotient.
+        id: u64,
+        /// The id of the constraint.
+        of: u64,
+        /// The number.
+        by: i128,
+    },
+    /// A constraint with each coefficient lowered to the degree where it is greater.
+    Saturate {
+        /// The id of what is added.
+        id: u64,
+        /// The id of the constraint.
+        of: u64,
+    },
 }

@@ -90,8 +90,8 @@ fn last_variable(weights: &[(Lit, i128)]) -> u32
     last
 }
 
-fn coefficients(alloc: Global, weights: &[(Lit, i128)]) -> Result<Vec<i128>, NoMemory>
-    requires { size_sum weights.now ≤ most_weight }
+pub(crate) fn coefficients(alloc: Global, weights: &[(Lit, i128)]) -> Result<Vec<i128>, NoMemory>
+    requires { size_sum weights.now ≤ MOST_SIZE }
     ensures sums { IfOk result (λ sums. AreCoefficients weights.now sums.items) }
     ensures within { IfOk result (λ sums. length sums.items ≤ MOST_VARIABLES) }
 {
@@ -101,7 +101,7 @@ fn coefficients(alloc: Global, weights: &[(Lit, i128)]) -> Result<Vec<i128>, NoM
 }
 
 fn add_weights(sums: &mut [i128], weights: &[(Lit, i128)])
-    requires size { size_sum weights.now ≤ most_weight }
+    requires size { size_sum weights.now ≤ MOST_SIZE }
     requires zero { sums.old ≡ replicate (last_variable weights.now) (pos 0) }
     ensures { AreCoefficients weights.now sums.new }
 {
@@ -123,8 +123,8 @@ fn add_weight(sums: &mut [i128], weight: &(Lit, i128))
     }
 }
 
-fn constant(weights: &[(Lit, i128)]) -> i128
-    requires { size_sum weights.now ≤ most_weight }
+pub(crate) fn constant(weights: &[(Lit, i128)]) -> i128
+    requires { size_sum weights.now ≤ MOST_SIZE }
     ensures { result ≡ constant_of weights.now }
 {
     let mut sum = 0;
@@ -140,7 +140,7 @@ fn constant_part(weight: &(Lit, i128)) -> i128
     if weight.0.is_positive() { 0 } else { weight.1 }
 }
 
-fn turned_sum(sums: &[i128]) -> i128
+pub(crate) fn turned_sum(sums: &[i128]) -> i128
     requires { AreSmall sums.now }
     ensures { result ≡ sum_below (length sums.now) (λ p. turned (number_at sums.now p)) }
 {
@@ -158,7 +158,7 @@ fn turned_part(coefficient: &i128) -> i128
     if *coefficient < 0 { -*coefficient } else { 0 }
 }
 
-fn terms_of_coefficients(alloc: Global, sums: &[i128]) -> Result<Terms, NoMemory>
+pub(crate) fn terms_of_coefficients(alloc: Global, sums: &[i128]) -> Result<Terms, NoMemory>
     requires places { length sums.now ≤ MOST_VARIABLES }
     requires small { AreSmall sums.now }
     ensures { IfOk result (λ terms. terms ≡ terms_of_numbers sums.now) }
