@@ -1,80 +1,87 @@
--- What stands at an id among clauses and the goal between them.
-use Rattle.std.proofs.Common.{◌≡◌, ◌≢◌, ℕ, zero, suc, ◌-◌, ◌+◌, ◌<◌, ◌≤◌, ℤ, Option, Some, None, List, [], ◌∷◌, ◌++◌, length, map, arith, refl, sym, ap, ◌∙◌, inl, inr}
-use Rattle.std.specs.Prelude.{slice_get, nat_lt}
-use Rattle.std.specs.Int.{from_bool}
-use Rattle.std.specs.Option.{option_map}
+-- What stands at an id among the slots.
+use Rattle.std.proofs.Common.{◌≡◌, ◌≢◌, ℕ, zero, suc, ◌-◌, ◌+◌, ◌<◌, ◌≤◌, ℤ, Option, Some, None, List, [], ◌∷◌, ◌++◌, length, map, get_or, set, arith, refl, sym, ap, ◌∙◌, inl, inr}
+use Rattle.std.specs.Prelude.{slice_get, replicate}
 use Rattle.std.specs.List.{All}
-use Rattle.std.proofs.lemmas.Bool.{cases_lt, lt-ltb, le-ltb}
-use Rattle.std.proofs.lemmas.List.{length-map, map-append}
-use Rattle.std.proofs.lemmas.Option.{slice_get-map, get_or_from_slice_get, slice_get_within}
+use Rattle.std.proofs.lemmas.Option.{get_or_from_slice_get, slice_get_within}
 use Rattle.ps_pb.specs.Assignments.{AreDifferent}
 use Rattle.ps_pb.specs.Constraints.{Constraint}
 use Rattle.ps_pb.specs.Weights.{clause_of}
-use Rattle.ps_pb.specs.Steps.{constraint_at, known_of}
-use Rattle.ps_pb.proofs.Ids.{constraint_at-known}
-use Rattle.ps_pbcheck.specs.Followed.{held_of}
+use Rattle.ps_pb.specs.Steps.{Known, constraint_at, known_of, without_id}
+use Rattle.ps_pb.proofs.Places.{constraint_at-place, constraint_at-zero}
+use Rattle.ps_pbcheck.specs.Followed.{constraint_in, known_in}
+use Rattle.ps_pbcheck.specs.declared.held.Slot.{Slot}
+use Rattle.ps_pbcheck.specs.declared.held.Slot.TheVariants.{Gone, Lits, Whole}
 
-before_get : (clauses : List (List ℤ)) (before i : ℕ) (goal : Constraint) → before ≤ length clauses → i < before → slice_get (held_of clauses before goal) i ≡ option_map clause_of (slice_get clauses i)
-before_get [] before i goal le lt = absurd (omega (arith, le, lt))
-before_get (l ∷ clauses) zero i goal le lt = absurd (omega (arith, lt))
-before_get (l ∷ clauses) (suc before) zero goal le lt = refl
-before_get (l ∷ clauses) (suc before) (suc i) goal le lt = before_get clauses before i goal (omega (arith, le)) (omega (arith, lt))
+pub known-length : (ss : List Slot) (ls : List (List ℤ)) → length ss ≡ length ls → length (known_in ss ls) ≡ length ss
+known-length [] ls h = refl
+known-length (s ∷ ss) [] h = absurd (omega (arith, h))
+known-length (s ∷ ss) (l ∷ ls) h = ap suc (known-length ss ls (omega (arith, h)))
 
-goal_get : (clauses : List (List ℤ)) (before : ℕ) (goal : Constraint) → before ≤ length clauses → slice_get (held_of clauses before goal) before ≡ Some goal
-goal_get [] zero goal le = refl
-goal_get [] (suc before) goal le = absurd (omega (arith, le))
-goal_get (l ∷ clauses) zero goal le = refl
-goal_get (l ∷ clauses) (suc before) goal le = goal_get clauses before goal (omega (arith, le))
+pub known-more : (ss : List Slot) (ls : List (List ℤ)) (s : Slot) (l : List ℤ) → length ss ≡ length ls → known_in (ss ++ s ∷ []) (ls ++ l ∷ []) ≡ known_in ss ls ++ constraint_in s l ∷ []
+known-more [] [] s l h = refl
+known-more [] (k ∷ ls) s l h = absurd (omega (arith, h))
+known-more (t ∷ ss) [] s l h = absurd (omega (arith, h))
+known-more (t ∷ ss) (k ∷ ls) s l h = ap (λ x. constraint_in t k ∷ x) (known-more ss ls s l (omega (arith, h)))
 
-behind_get : (clauses : List (List ℤ)) (before i : ℕ) (goal : Constraint) → before ≤ length clauses → before ≤ i → slice_get (held_of clauses before goal) (suc i) ≡ option_map clause_of (slice_get clauses i)
-behind_get [] zero i goal le past = refl
-behind_get [] (suc before) i goal le past = absurd (omega (arith, le))
-behind_get (l ∷ clauses) zero i goal le past = slice_get-map clause_of (l ∷ clauses) i
-behind_get (l ∷ clauses) (suc before) zero goal le past = absurd (omega (arith, past))
-behind_get (l ∷ clauses) (suc before) (suc i) goal le past = behind_get clauses before i goal (omega (arith, le)) (omega (arith, past))
+pub known-set : (ss : List Slot) (ls : List (List ℤ)) (i : ℕ) → known_in (set ss i Gone) ls ≡ set (known_in ss ls) i None
+known-set [] ls i = refl
+known-set (s ∷ ss) [] zero = refl
+known-set (s ∷ ss) [] (suc i) = refl
+known-set (s ∷ ss) (l ∷ ls) zero = refl
+known-set (s ∷ ss) (l ∷ ls) (suc i) = ap (λ x. constraint_in s l ∷ x) (known-set ss ls i)
 
-pub known-goal : (clauses : List (List ℤ)) (before : ℕ) (goal : Constraint) (id : ℕ) → before ≤ length clauses → id ≢ 0 → id - 1 ≡ before → constraint_at (known_of (held_of clauses before goal)) id ≡ Some goal
-known-goal clauses before goal id le h e =
-    constraint_at-known (held_of clauses before goal) id h ∙ ap (slice_get (held_of clauses before goal)) e ∙ goal_get clauses before goal le
+pub known-clauses : (n : ℕ) (ls : List (List ℤ)) → n ≡ length ls → known_in (replicate n Lits) ls ≡ known_of (map clause_of ls)
+known-clauses zero [] h = refl
+known-clauses zero (l ∷ ls) h = absurd (omega (arith, h))
+known-clauses (suc n) [] h = absurd (omega (arith, h))
+known-clauses (suc n) (l ∷ ls) h = ap (λ x. Some (clause_of l) ∷ x) (known-clauses n ls (omega (arith, h)))
 
-known_before : (clauses : List (List ℤ)) (before : ℕ) (goal : Constraint) (id : ℕ) → before ≤ length clauses → id ≢ 0 → id - 1 < before → constraint_at (known_of (held_of clauses before goal)) id ≡ option_map clause_of (slice_get clauses (id - 1))
-known_before clauses before goal id le h lt =
-    constraint_at-known (held_of clauses before goal) id h ∙ before_get clauses before (id - 1) goal le lt
+known_get : (ss : List Slot) (ls : List (List ℤ)) (i : ℕ) (s : Slot) (l : List ℤ) → i < length ss → s ≡ get_or ss i s → slice_get ls i ≡ Some l → get_or (known_in ss ls) i None ≡ constraint_in s l
+known_get [] ls i s l h a b = absurd (omega (arith, h))
+known_get (t ∷ ss) [] i s l h a b = absurd (cc)
+known_get (t ∷ ss) (k ∷ ls) zero s l h a b = (let q : k ≡ l = cc b in rw (a, q) refl)
+known_get (t ∷ ss) (k ∷ ls) (suc i) s l h a b = known_get ss ls i s l (omega (arith, h)) a b
 
-known_behind : (clauses : List (List ℤ)) (before : ℕ) (goal : Constraint) (id place : ℕ) → before ≤ length clauses → id ≢ 0 → before ≤ place → id - 1 ≡ suc place → constraint_at (known_of (held_of clauses before goal)) id ≡ option_map clause_of (slice_get clauses place)
-known_behind clauses before goal id place le h past e =
-    constraint_at-known (held_of clauses before goal) id h ∙ ap (slice_get (held_of clauses before goal)) e ∙ behind_get clauses before place goal le past
+known_past : (ss : List Slot) (ls : List (List ℤ)) (i : ℕ) → length ss ≤ i → get_or (known_in ss ls) i None ≡ None
+known_past [] ls i h = refl
+known_past (t ∷ ss) [] i h = refl
+known_past (t ∷ ss) (k ∷ ls) zero h = absurd (omega (arith, h))
+known_past (t ∷ ss) (k ∷ ls) (suc i) h = known_past ss ls i (omega (arith, h))
 
--- a clause stands one place further on where it stands behind the goal
-pub known-clause : (clauses : List (List ℤ)) (before : ℕ) (goal : Constraint) (id : ℕ) (o : Option (List ℤ)) → before ≤ length clauses → id ≢ 0 → id - 1 ≢ before → o ≡ slice_get clauses (id - 1 - from_bool (nat_lt before (id - 1))) → constraint_at (known_of (held_of clauses before goal)) id ≡ option_map clause_of o
-known-clause clauses before goal id o le h ne there = elim (cases_lt before (id - 1)) [
-  | inl lt ↦ (let at : o ≡ slice_get clauses (id - 1 - 1) = there ∙ ap (λ b. slice_get clauses (id - 1 - from_bool b)) (lt-ltb before (id - 1) lt) in
-      known_behind clauses before goal id (id - 1 - 1) le h (omega (arith, lt)) (omega (arith, lt)) ∙ ap (option_map clause_of) (sym at))
-  | inr past ↦ (let none : id - 1 - 0 ≡ id - 1 = omega arith in
-      let at : o ≡ slice_get clauses (id - 1) = there ∙ ap (λ b. slice_get clauses (id - 1 - from_bool b)) (le-ltb before (id - 1) past) ∙ ap (slice_get clauses) none in
-      known_before clauses before goal id le h (omega (arith, past, ne)) ∙ ap (option_map clause_of) (sym at))
-]
+known_out : (ss : List Slot) (ls : List (List ℤ)) (i : ℕ) → slice_get ls i ≡ None → get_or (known_in ss ls) i None ≡ None
+known_out [] ls i a = refl
+known_out (t ∷ ss) [] i a = refl
+known_out (t ∷ ss) (k ∷ ls) zero a = absurd (cc)
+known_out (t ∷ ss) (k ∷ ls) (suc i) a = known_out ss ls i a
 
-pub zero-none : (cs : List Constraint) (id : ℕ) → id ≡ 0 → constraint_at (known_of cs) id ≡ None
-unfolding constraint_at
-zero-none cs id e = rw e refl
+pub at-slot : (ss : List Slot) (ls : List (List ℤ)) (id : ℕ) (s : Slot) (l : List ℤ) → id ≢ 0 → id - 1 < length ss → s ≡ get_or ss (id - 1) s → slice_get ls (id - 1) ≡ Some l → constraint_at (known_in ss ls) id ≡ constraint_in s l
+at-slot ss ls id s l n h a b = constraint_at-place (known_in ss ls) id n ∙ known_get ss ls (id - 1) s l h a b
 
-pub held-length : (clauses : List (List ℤ)) (before : ℕ) (goal : Constraint) → length (held_of clauses before goal) ≡ length clauses + 1
-held-length [] zero goal = refl
-held-length [] (suc before) goal = refl
-held-length (l ∷ clauses) zero goal = omega (arith, length-map (l ∷ clauses) clause_of)
-held-length (l ∷ clauses) (suc before) goal = omega (arith, held-length clauses before goal)
+pub at-past : (ss : List Slot) (ls : List (List ℤ)) (id : ℕ) → id ≢ 0 → length ss ≤ id - 1 → constraint_at (known_in ss ls) id ≡ None
+at-past ss ls id n h = constraint_at-place (known_in ss ls) id n ∙ known_past ss ls (id - 1) h
 
-pub held-more : (clauses : List (List ℤ)) (before : ℕ) (goal : Constraint) (ls : List ℤ) → before ≤ length clauses → held_of (clauses ++ ls ∷ []) before goal ≡ held_of clauses before goal ++ clause_of ls ∷ []
-held-more [] zero goal ls le = refl
-held-more [] (suc before) goal ls le = absurd (omega (arith, le))
-held-more (l ∷ clauses) zero goal ls le = ap (λ x. goal ∷ x) (map-append clause_of (l ∷ clauses) (ls ∷ []))
-held-more (l ∷ clauses) (suc before) goal ls le = ap (λ x. clause_of l ∷ x) (held-more clauses before goal ls (omega (arith, le)))
+pub at-out : (ss : List Slot) (ls : List (List ℤ)) (id : ℕ) → id ≢ 0 → slice_get ls (id - 1) ≡ None → constraint_at (known_in ss ls) id ≡ None
+at-out ss ls id h a = constraint_at-place (known_in ss ls) id h ∙ known_out ss ls (id - 1) a
 
--- at first no clause stands behind the goal
-pub held-first : (clauses : List (List ℤ)) (goal : Constraint) → held_of clauses (length clauses) goal ≡ map clause_of clauses ++ goal ∷ []
-held-first [] goal = refl
-held-first (l ∷ clauses) goal = ap (λ x. clause_of l ∷ x) (held-first clauses goal)
+pub zero-none : (known : Known) (id : ℕ) → id ≡ 0 → constraint_at known id ≡ None
+zero-none known id e = rw e (constraint_at-zero known)
+
+pub without-zero : (known : Known) (id : ℕ) → id ≡ 0 → without_id known id ≡ known
+unfolding without_id
+without-zero known id e = rw e refl
+
+pub without-place : (known : Known) (id : ℕ) → id ≢ 0 → without_id known id ≡ set known (id - 1) None
+unfolding without_id
+without-place known zero h = absurd (h refl)
+without-place known (suc i) h = let e : suc i - 1 ≡ i = omega arith in rw e refl
+
+set_past : (known : Known) (i : ℕ) → length known ≤ i → set known i None ≡ known
+set_past [] i h = refl
+set_past (k ∷ ks) zero h = absurd (omega (arith, h))
+set_past (k ∷ ks) (suc i) h = ap (λ x. k ∷ x) (set_past ks i (omega (arith, h)))
+
+pub without-past : (known : Known) (id : ℕ) → id ≢ 0 → length known ≤ id - 1 → without_id known id ≡ known
+without-past known id h p = without-place known id h ∙ set_past known (id - 1) p
 
 -- the literals of each clause are different
 pub at-different : (clauses : List (List ℤ)) (i : ℕ) (ls : List ℤ) → All AreDifferent clauses → slice_get clauses i ≡ Some ls → AreDifferent ls

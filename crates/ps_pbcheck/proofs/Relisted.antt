@@ -13,8 +13,7 @@ use Rattle.ps_pb.proofs.Linear.{coefficient-elsewhere, coefficient-own}
 use Rattle.ps_pb.proofs.Bounds.{weighted-append}
 use Rattle.ps_pb.proofs.Clauses.{clause-plain}
 use Rattle.ps_clause.specs.Forms.{IsClause}
-use Rattle.ps_pbcheck.specs.Followed.{lits_in, held_of}
-use Rattle.ps_pbcheck.proofs.Placed.{held-first}
+use Rattle.ps_pbcheck.specs.Followed.{lits_in}
 
 -- ---- the coefficients of terms by place
 plus_zero : (z : ℤ) → z +ℤ pos 0 ≡ z
@@ -154,11 +153,6 @@ pub all_differ : (variables : ℕ) (cs : List Constraint) → All (IsClause vari
 all_differ variables [] h = All-nil AreDifferent
 all_differ variables (c ∷ cs) h =
     All-cons AreDifferent (lits_in c) (map lits_in cs) (differ variables c (All-head (IsClause variables) c cs h)) (all_differ variables cs (All-tail (IsClause variables) c cs h))
-
--- at first what is known is the form and the goal
-pub held_start : (variables : ℕ) (cs : List Constraint) (clauses : List (List ℤ)) (goal : Constraint) → All (IsClause variables) cs → clauses ≡ map lits_in cs → held_of clauses (length clauses) goal ≡ cs ++ goal ∷ []
-held_start variables cs clauses goal h e =
-    held-first clauses goal ∙ ap (λ xs. map clause_of xs ++ goal ∷ []) e ∙ ap (λ xs. xs ++ goal ∷ []) (all_relisted variables cs h)
 
 -- all terms were gone through
 pub firsts_end : (ts : List (ℤ × ℕ)) (i : ℕ) → length (weighted ts) ≤ i → map (λ t. t.0) (take i (weighted ts)) ≡ firsts ts

@@ -1,26 +1,22 @@
 //! The checker of steps.
-ghost use Rattle.std.specs.Prelude.{◌≡◌, ◌++◌, ◌∷◌, [], IfOk, IfErr, OnOk, OnErr};
-ghost use Rattle.std.specs.Prelude.{true, Some, fold, length};
-ghost use Rattle.ps_pb.specs.declared.refused.StepRefused.TheVariants.{NoMemory as Lack};
-ghost use Rattle.ps_pb.specs.Assignments.{all_unset, AreDifferent};
-ghost use Rattle.ps_pb.specs.Weights.{clause_of};
-ghost use Rattle.ps_pb.specs.Steps.{known_of, refusal_of, and_false, Entails, IsUnmet};
-ghost use Rattle.ps_pbcheck.specs.Checked.{first_checked, after_step, AnswersStep};
-ghost use Rattle.ps_pbcheck.specs.Judged.{AllFalse};
+ghost use Rattle.std.specs.Prelude.{◌≡◌, IfOk, OnOk, OnErr, true};
+ghost use Rattle.ps_pb.specs.Steps.{Entails, IsUnmet};
+ghost use Rattle.ps_pbcheck.specs.Checked.{first_checked, after_step, refusal_by, AnswersStep};
 
 use crate::held::Held;
-use crate::hints::follow_hints;
+use crate::taking::apply;
 use ps_clause::ClauseForm;
 use ps_io::NoMemory;
-use ps_pb::{Assignment, Constraint, Lit, Step, StepRefused};
+use ps_pb::{Assignment, Constraint, Step, StepRefused};
 use std::alloc::Global;
 use std::marker::Model;
 
-/// The known constraints, and whether the last step taken has no literals.
+/// The constraints that stand, and whether the last step taken added one whose coefficients sum to
+/// less than its degree.
 #[derive(Drop)]
 pub struct Checker {
     alloc: Global,
-    // The variables, none with a value: for each step a copy is made.
+    // The variables, none with a value: for each clause a copy is made.
     unset: Assignment,
     known: Held,
     refuted: bool,
@@ -29,8 +25,7 @@ pub struct Checker {
 impl Model for Checker {
     ghost use Rattle.std.specs.Prelude.{◌≡◌, true, length};
     ghost use Rattle.ps_pb.specs.Assignments.{all_unset};
-    ghost use Rattle.ps_pb.specs.Weights.{clause_of};
-    ghost use Rattle.ps_pb.specs.Steps.{known_of, IsUnmet};
+    ghost use Rattle.ps_pb.specs.Steps.{IsUnmet};
     ghost use Rattle.ps_pbcheck.specs.Checked.{Checked, checked_of};
 
     ghost Value = { Checked };
@@ -38,7 +33,7 @@ impl Model for Checker {
     ghost view = { λ c. checked_of (length c.unset) c.known c.refuted };
 
     ghost invariant = { λ c. (c.unset ≡ all_unset (length c.unset))
-        × (c.refuted ≡ true → IsUnmet (known_of c.known)) };
+        × (c.refuted ≡ true → IsUnmet c.known.known) };
 }
 
 impl Checker {
@@ -55,82 +50,28 @@ impl Checker {
         })
     }
 
-    /// Takes a step where it is lawful (reverse unit propagation; Goldberg and Novikov, 2003).
-    /// Otherwise the first reason is answered, and the checker is unchanged.
+    /// Takes a step where it is lawful: a clause by reverse unit propagation (Goldberg and Novikov,
+    /// 2003), the others as cutting planes (Cook, Coullard and Turan, 1987). Otherwise the first
+    /// reason is answered, and the checker is unchanged.
     pub fn take(&mut self, s: &Step) -> Result<(), StepRefused>
-        ensures judged { AnswersStep (refusal_of self.old.variables self.old.known s.now) result }
+        ensures judged { AnswersStep (refusal_by self.old s.now) result }
         ensures ok { OnOk result (self.new ≡ after_step self.old s.now) }
         ensures err { OnErr result (self.new ≡ self.old) }
 
         // Each full assignment that met what was known meets what is known now.
         ensures entailed { OnOk result (Entails self.old.known self.new.known) }
     {
-        judge(self.alloc, &self.unset, &self.known, s)?;
-        push(&mut self.known, s.lits.as_slice())?;
-        self.refuted = s.lits.as_slice().is_empty();
+        let refuted = apply(self.alloc, &self.unset, &mut self.known, s)?;
+        self.refuted = refuted;
         Ok(())
     }
 
-    /// Whether the last step taken has no literals. Then no full assignment meets what is known.
+    /// Whether the last step taken added a constraint whose coefficients sum to less than its
+    /// degree. Then no full assignment meets what is known.
     pub fn refuted(&self) -> bool
         ensures value { result ≡ self.now.refuted }
         ensures unmet { result ≡ true → IsUnmet self.now.known }
     {
         self.refuted
     }
-}
-
-fn no_memory(_: NoMemory) -> StepRefused
-    ensures { result ≡ Lack }
-{
-    StepRefused::NoMemory
-}
-
-fn push(known: &mut Held, lits: &[Lit]) -> Result<(), StepRefused>
-    requires { AreDifferent lits.now }
-    ensures ok { OnOk result (known.new ≡ known.old ++ clause_of lits.now ∷ []) }
-    ensures err { OnErr result (known.new ≡ known.old) }
-    ensures lack { IfErr result (λ e. e ≡ Lack) }
-{
-    known.push(lits).map_err(no_memory)
-}
-
-/// Why a step isn't lawful, if it isn't.
-#[tactic(auto, using(ps_pb::proofs::Ids::ids), unfolding(ps_pb::specs::Steps::all_false))]
-fn judge(alloc: Global, unset: &Assignment, known: &Held, s: &Step) -> Result<(), StepRefused>
-    requires { unset.now ≡ all_unset (length unset.now) }
-    ensures { AnswersStep (refusal_of (length unset.now) (known_of known.now) s.now) result }
-{
-    if s.id == 0 || s.id - 1 != known.len() as u64 {
-        return Err(StepRefused::IdNotNext);
-    }
-    let mut a = unset.copy(alloc).map_err(no_memory)?;
-    if !set_all_false(&mut a, s.lits.as_slice()) {
-        return Err(StepRefused::BadLit);
-    }
-    follow_hints(known, &mut a, s.hints.as_slice())
-}
-
-/// Sets a literal false, unless its variable is past the last or was set.
-fn set_one_false(a: &mut Assignment, lit: Lit) -> bool
-    ensures { AllFalse (and_false (Some a.old) lit) result a.new }
-{
-    if lit.place() < a.len() && a.value_of(lit).is_none() {
-        a.set_false(lit);
-        true
-    } else {
-        false
-    }
-}
-
-/// Sets each literal false, until one is bad.
-fn set_all_false(a: &mut Assignment, lits: &[Lit]) -> bool
-    ensures { AllFalse (fold and_false (Some a.old) lits.now) result a.new }
-{
-    for lit in lits {
-        if !set_one_false(a, *lit) {
-            return false;
-        }
-    }
-    true
 }

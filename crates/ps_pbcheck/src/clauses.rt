@@ -1,5 +1,6 @@
 //! Clauses by number.
-ghost use Rattle.std.specs.Prelude.{◌≡◌, ◌<◌, ◌^◌, ◌++◌, [], ◌∷◌, length, slice_get, option_copied, OnOk, OnErr};
+ghost use Rattle.std.specs.Prelude.{◌≡◌, ◌<◌, ◌^◌, ◌++◌, [], ◌∷◌, length, slice_get, option_copied};
+ghost use Rattle.std.specs.Prelude.{IfOk, OnOk, OnErr};
 ghost use Rattle.ps_pbcheck.specs.Parts.{start_at};
 
 use ps_io::NoMemory;
@@ -34,6 +35,28 @@ impl Clauses {
         Clauses {
             lits: Vec::new(alloc),
             ends: Vec::new(alloc),
+        }
+    }
+
+    /// No clauses, with room for so many, and for so many literals of all.
+    pub(crate) fn with_room(alloc: Global, clauses: usize, lits: usize) -> Result<Clauses, NoMemory>
+        ensures { IfOk result (λ c. c ≡ []) }
+    {
+        let lits = Vec::with_capacity(alloc, lits)?;
+        let ends = Vec::with_capacity(alloc, clauses)?;
+        Ok(Clauses { lits, ends })
+    }
+
+    /// How many literals all clauses have.
+    pub(crate) fn lit_count(&self) -> usize {
+        self.lits.len()
+    }
+
+    /// How many literals the clause at a place has, from 0 on.
+    pub(crate) fn lit_count_at(&self, place: usize) -> usize {
+        match self.get(place) {
+            Some(lits) => lits.len(),
+            None => 0,
         }
     }
 

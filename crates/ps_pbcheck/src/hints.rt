@@ -1,5 +1,5 @@
 //! Propagation along the hints of a step.
-ghost use Rattle.ps_pb.specs.Steps.{known_of, after_hints, end_of, Open};
+ghost use Rattle.ps_pb.specs.Steps.{after_hints, end_of, Open};
 ghost use Rattle.ps_pbcheck.specs.Judged.{gone_along, IsAfter, IsEnded};
 
 use crate::held::Held;
@@ -13,7 +13,7 @@ fn follow_hint(
     conflict: bool,
     hint: u64,
 ) -> Result<bool, StepRefused>
-    ensures { IsAfter (gone_along known.now conflict a.old hint) a.new result }
+    ensures { IsAfter (gone_along known.now.known conflict a.old hint) a.new result }
 {
     match known.follow(hint, a) {
         None => Err(StepRefused::UnknownHint { hint }),
@@ -30,7 +30,7 @@ pub(crate) fn follow_hints(
     a: &mut Assignment,
     hints: &[u64],
 ) -> Result<(), StepRefused>
-    ensures { IsEnded (end_of (after_hints (known_of known.now) (Open a.old) hints.now)) result }
+    ensures { IsEnded (end_of (after_hints known.now.known (Open a.old) hints.now)) result }
 {
     let mut conflict = false;
     for hint in hints {

@@ -1,5 +1,5 @@
 use Rattle.ps_pb.proofs.Places.{and_false-stop}
-use Rattle.ps_pbcheck.proofs.checker.set_all_false.Goals as goal
+use Rattle.ps_pbcheck.proofs.clausal.set_all_false.Goals as goal
 
 pub returns-then-not-set_one_false : goal.returns-then-not-set_one_false
 returns-then-not-set_one_false c =
