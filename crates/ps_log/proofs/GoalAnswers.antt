@@ -18,7 +18,7 @@ use Rattle.ps_log.proofs.LineAnswers.{same_rest, words-text, text-starts, text-s
 use Rattle.ps_log.proofs.LineShapes.{text-goal, goal-text, reads_goal, all-positive, positives}
 use Rattle.ps_log.proofs.Reading.{goal_small, goal-one_line}
 use Rattle.ps_log.proofs.Spelled.{spelled-unique}
-use Rattle.ps_log.proofs.StepShapes.{uncut}
+use Rattle.ps_log.proofs.ClauseShapes.{uncut}
 use Rattle.ps_log.proofs.GoalShapes.{restored, pairs-positive, uncapped-terms, terms-uncapped, terms-capped, numbers-terms, pairs-numbers, pairs-end, numbers-pairs, terms-positive, not-cut}
 
 g_is_letter : ◌≢◌ {A = ℕ} 103 32

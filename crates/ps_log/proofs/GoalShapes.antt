@@ -18,7 +18,7 @@ use Rattle.ps_log.specs.Texts.{term_numbers}
 use Rattle.ps_log.specs.Numbers.{capped}
 use Rattle.ps_log.proofs.LineAnswers.{same_rest}
 use Rattle.ps_log.proofs.Reading.{Small}
-use Rattle.ps_log.proofs.StepShapes.{uncapped-zero, first_in, rest_in}
+use Rattle.ps_log.proofs.ClauseShapes.{uncapped-zero, first_in, rest_in}
 use Rattle.ps_log.proofs.Within.{goal_is_within}
 
 one_or_more : (k : ℤ) → int_le (pos 1) k ≡ true → pos 1 ≤ℤ k

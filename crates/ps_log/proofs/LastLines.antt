@@ -4,9 +4,9 @@ use Rattle.std.specs.Prelude.{fold}
 use Rattle.std.proofs.lemmas.List.Sums.{fold-append}
 use Rattle.std.proofs.lemmas.Option.{none-some, same_Some}
 use Rattle.ps_pb.specs.Constraints.{Constraint}
-use Rattle.ps_pb.specs.Steps.{Step}
+use Rattle.ps_pb.specs.declared.step.Step.{Step}
 use Rattle.ps_log.specs.Told.{Proof, EndWith, with_step, with_goal, after_line, step_of, goal_of, proof_of, whole_lines}
-use Rattle.ps_log.proofs.LineShapes.{step_is_no_goal}
+use Rattle.ps_log.proofs.StepsTold.{step_is_no_goal}
 
 abbrev proof_with : Constraint → List Step → Proof
 proof_with g ss = record { goal = g; steps = ss }

@@ -5,10 +5,11 @@ use Rattle.std.proofs.lemmas.Fmt.{length-decimal-le_wide}
 use Rattle.std.proofs.lemmas.List.{length-map}
 use Rattle.ps_io.proofs.WordLemmas.{length-with_word}
 use Rattle.ps_pb.specs.Constraints.{Constraint}
-use Rattle.ps_pb.specs.Steps.{Step}
+use Rattle.ps_pb.specs.declared.step.Step.{Step}
+use Rattle.ps_pb.specs.declared.step.Step.TheVariants.{Clause, Delete, Add, Multiply, Divide, Saturate}
 use Rattle.ps_pb.specs.Weights.{Weighted, weighted, size_sum}
-use Rattle.ps_log.specs.Texts.{with_number, with_numbers, hint_numbers, term_numbers, step_line, goal_line}
-use Rattle.ps_log.specs.Limits.{IsId, IsStepWithin, IsGoalWithin}
+use Rattle.ps_log.specs.Texts.{with_number, with_numbers, hint_numbers, term_numbers, step_numbers, step_line, goal_line}
+use Rattle.ps_log.specs.Limits.{IsId, IsClauseWithin, IsStepWithin, IsGoalWithin}
 use Rattle.ps_pb.specs.Limits.{IsLiteral}
 use Rattle.ps_log.proofs.ManyNumbers.{with_id, with_lits, with_middle, with_hints, step_parts, with_degree, with_terms, goal_parts}
 
@@ -59,24 +60,45 @@ terms_length text (t ∷ ts) h s =
 zero_length : length (signed_decimal (pos 0)) ≤ 13
 zero_length = id_length 0 (omega arith)
 
--- a step within the limits has a short line
-pub step_is_short : (s : Step) → IsStepWithin s → length (step_line s) < 65536
-unfolding step_line
-step_is_short s h =
+-- a clause within the limits has a short line
+clause_is_short : (id : ℕ) (lits : List ℤ) (hints : List ℕ) → IsClauseWithin id lits hints → length (with_numbers (115 ∷ []) (step_numbers id lits hints)) < 65536
+clause_is_short id lits hints h =
     let start : List ℕ = 115 ∷ [] in
-    rw (step_parts start s.id s.lits s.hints)
+    rw (step_parts start id lits hints)
     (omega (
       arith,
       zero_length,
       h.few_lits,
       h.few_hints,
-      id_length s.id h.id.1,
-      length-with_word start (signed_decimal (pos s.id)),
-      lits_length (with_id start s.id s.lits s.hints) s.lits h.lits,
-      length-with_word (with_lits start s.id s.lits s.hints) (signed_decimal (pos 0)),
-      hints_length (with_middle start s.id s.lits s.hints) s.hints h.hints,
-      length-with_word (with_hints start s.id s.lits s.hints) (signed_decimal (pos 0)),
+      id_length id h.id.1,
+      length-with_word start (signed_decimal (pos id)),
+      lits_length (with_id start id lits hints) lits h.lits,
+      length-with_word (with_lits start id lits hints) (signed_decimal (pos 0)),
+      hints_length (with_middle start id lits hints) hints h.hints,
+      length-with_word (with_hints start id lits hints) (signed_decimal (pos 0)),
     ))
+
+one_short : (text : List ℕ) (z : ℤ) → unsigned_abs z ≤ 2 ^ 126 → length (with_number text z) ≤ length text + 41
+one_short text z h = omega (arith, length-with_word text (signed_decimal z), number_length z h)
+
+id_fits : (n : ℕ) → IsId n → unsigned_abs (pos n) ≤ 2 ^ 126
+id_fits n h = omega (arith, h.1)
+
+two_short : (letter i j : ℕ) → IsId i → IsId j → length (with_numbers (letter ∷ []) (pos i ∷ pos j ∷ [])) < 65536
+two_short letter i j a b = let start : List ℕ = letter ∷ [] in omega (arith, one_short start (pos i) (id_fits i a), one_short (with_number start (pos i)) (pos j) (id_fits j b))
+
+three_short : (letter i j : ℕ) (z : ℤ) → IsId i → IsId j → unsigned_abs z ≤ 2 ^ 126 → length (with_numbers (letter ∷ []) (pos i ∷ pos j ∷ z ∷ [])) < 65536
+three_short letter i j z a b h = let start : List ℕ = letter ∷ [] in omega (arith, one_short start (pos i) (id_fits i a), one_short (with_number start (pos i)) (pos j) (id_fits j b), one_short (with_number (with_number start (pos i)) (pos j)) z h)
+
+-- a step within the limits has a short line
+pub step_is_short : (s : Step) → IsStepWithin s → length (step_line s) < 65536
+unfolding step_line
+step_is_short (Clause id lits hints) h = clause_is_short id lits hints h
+step_is_short (Delete id) h = let start : List ℕ = 100 ∷ [] in omega (arith, one_short start (pos id) (id_fits id h))
+step_is_short (Add id left right) h = three_short 97 id left (pos right) h.0 h.1 (id_fits right h.2)
+step_is_short (Multiply id of by) h = three_short 109 id of by h.0 h.1 h.2.1
+step_is_short (Divide id of by) h = three_short 118 id of by h.0 h.1 h.2.1
+step_is_short (Saturate id of) h = two_short 117 id of h.0 h.1
 
 -- a goal within the limits has a short line
 pub goal_is_short : (goal : Constraint) → IsGoalWithin goal → length (goal_line goal) < 65536

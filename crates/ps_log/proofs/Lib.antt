@@ -1,5 +1,8 @@
 pub mod LastLines
+pub mod ClauseAnswers
+pub mod ClauseShapes
 pub mod Comparing
+pub mod CountAnswers
 pub mod GoalAnswers
 pub mod GoalShapes
 pub mod Lengths
@@ -9,9 +12,11 @@ pub mod LongTexts
 pub mod ManyNumbers
 pub mod Parts
 pub mod Reading
+pub mod ShortAnswers
+pub mod StepWords
 pub mod Spelled
 pub mod StepAnswers
 pub mod StepLines
-pub mod StepShapes
+pub mod StepsTold
 pub mod Telling
 pub mod Within

@@ -18,7 +18,7 @@ use Rattle.ps_log.proofs.Parts.{Lacks}
 use Rattle.ps_log.proofs.Reading.{number-lacks, space_is_no_digit, Small}
 use Rattle.ps_log.proofs.Spelled.{written_of, written-spells}
 use Rattle.ps_log.proofs.StepLines.{words-cut, words-one}
-use Rattle.ps_log.proofs.StepShapes.{first_in, rest_in}
+use Rattle.ps_log.proofs.ClauseShapes.{first_in, rest_in}
 
 -- words after spaces
 abbrev pub spaced : List (List ℕ) → List ℕ

@@ -1,4 +1,4 @@
--- The lines of steps and goals, by their words.
+-- The lines of goals, by their words, and what lines of a letter and numbers have in common.
 use Rattle.std.proofs.Common.{◌≡◌, ℕ, zero, suc, ◌-◌, ◌<◌, ◌≤◌, ◌==◌, ◌≤ℤ◌, nat_lt, ℤ, pos, negsuc, neg_ℤ, Bool, true, false, not, ◌&&◌, ◌||◌, List, [], ◌∷◌, ◌++◌, length, map, Option, None, Some, refl, sym, ap, subst, ◌∙◌, arith, true≢false, All, length-append, unsigned_abs}
 use Rattle.std.specs.Prelude.{if◌then◌else◌, slice_index}
 use Rattle.std.specs.Bool.{Decides}
@@ -17,21 +17,18 @@ use Rattle.std.proofs.lemmas.Option.{none-some, same_Some}
 use Rattle.std.proofs.lemmas.Slice.Eq.{slice_eq-Decides, bytes_eq-Decides}
 use Rattle.std.proofs.Math.Seq.{take-append_seam}
 use Rattle.ps_pb.specs.Constraints.{Constraint}
-use Rattle.ps_pb.specs.Steps.{Step}
 use Rattle.ps_pb.specs.Weights.{weighted, are_rising}
 use Rattle.ps_log.specs.GoalTexts.{IsGoalText}
 use Rattle.ps_log.specs.Spellings.{IsPlain, Spells, SpellAll}
 use Rattle.ps_log.specs.Spellings.{words_of}
-use Rattle.ps_log.specs.StepTexts.{IsStepText}
-use Rattle.ps_log.specs.Texts.{hint_numbers, term_numbers, step_numbers, goal_numbers, step_line, goal_line}
-use Rattle.ps_log.specs.Limits.{IsStepWithin, IsGoalWithin}
-use Rattle.ps_log.specs.Told.{is_plain, is_number, number_of, numbers_after, before_zero, after_zero, but_last, step_from, terms_from, goal_from, are_goal_terms, step_with, goal_with, step_of, goal_of}
+use Rattle.ps_log.specs.Texts.{hint_numbers, term_numbers, goal_numbers, goal_line}
+use Rattle.ps_log.specs.Limits.{IsGoalWithin}
+use Rattle.ps_log.specs.Told.{is_plain, is_number, number_of, numbers_after, before_zero, after_zero, but_last, terms_from, goal_from, are_goal_terms, goal_with, goal_of}
 use Rattle.ps_log.proofs.Parts.{same_byte}
 use Rattle.ps_log.proofs.Reading.{goal_small}
 use Rattle.ps_log.proofs.Spelled.{minus_first, spelled-values}
 use Rattle.ps_log.proofs.LineAnswers.{written-words_of, written-spelled}
-use Rattle.ps_log.proofs.StepAnswers.{line-is-text}
-use Rattle.ps_log.proofs.StepShapes.{Nonzero, first_in, rest_in}
+use Rattle.ps_log.proofs.ClauseShapes.{Nonzero, first_in, rest_in}
 
 -- plain words
 below_ten : (n : ℕ) → nat_lt n 10 ≡ true → n < 10
@@ -104,105 +101,47 @@ numbers-spell [] e = tt
 numbers-spell (w ∷ ws) e = let p = and_parts _ _ e in (number-spells w p.0, numbers-spell ws p.1)
 
 -- the numbers after a letter
-letter-reads : (c : ℕ) (ws : List (List ℕ)) (zs : List ℤ) → SpellAll ws zs → numbers_after c ((c ∷ []) ∷ ws) ≡ Some zs
+pub letter-reads : (c : ℕ) (ws : List (List ℕ)) (zs : List ℤ) → SpellAll ws zs → numbers_after c ((c ∷ []) ∷ ws) ≡ Some zs
 letter-reads c ws zs s = rw (same_byte c, numbers-pass ws zs s) (ap Some (spelled-values ws zs s))
 
-letter-found : (c : ℕ) (w : List ℕ) (ws : List (List ℕ)) (zs : List ℤ) → numbers_after c (w ∷ ws) ≡ Some zs → (w ≡ c ∷ []) × SpellAll ws zs
+pub letter-found : (c : ℕ) (w : List ℕ) (ws : List (List ℕ)) (zs : List ℤ) → numbers_after c (w ∷ ws) ≡ Some zs → (w ≡ c ∷ []) × SpellAll ws zs
 letter-found c w ws zs = by (bytes_eq w (c ∷ []) && list_all is_number ws) refl
   where
     by : (t : Bool) → (bytes_eq w (c ∷ []) && list_all is_number ws) ≡ t → (if t then Some (map number_of ws) else None) ≡ Some zs → (w ≡ c ∷ []) × SpellAll ws zs
     by true e f = let p = and_parts _ _ e in ((bytes_eq-Decides w (c ∷ [])).0 p.0, subst (SpellAll ws) (same_Some _ _ f) (numbers-spell ws p.1))
     by false e f = absurd (none-some zs f)
 
-same-ints : (xs ys : List ℤ) → Decides (pointwise int_eq xs ys) (xs ≡ ys)
+pub same-ints : (xs ys : List ℤ) → Decides (pointwise int_eq xs ys) (xs ≡ ys)
 same-ints xs ys = slice_eq-Decides Decides-int_eq xs ys _ refl
 
 -- the parts of a step are found again
 not_zero : (l : ℤ) → 1 ≤ unsigned_abs l → (unsigned_abs l == 0) ≡ false
 not_zero l h = grind (arith, h)
 
-before : (lits more : List ℤ) → All Nonzero lits → before_zero (lits ++ pos 0 ∷ more) ≡ lits
+pub before : (lits more : List ℤ) → All Nonzero lits → before_zero (lits ++ pos 0 ∷ more) ≡ lits
 before [] more h = refl
 before (l ∷ ls) more h = rw (not_zero l (first_in Nonzero l ls h), before ls more (rest_in Nonzero l ls h)) refl
 
-after : (lits more : List ℤ) → All Nonzero lits → after_zero (lits ++ pos 0 ∷ more) ≡ more
+pub after : (lits more : List ℤ) → All Nonzero lits → after_zero (lits ++ pos 0 ∷ more) ≡ more
 after [] more h = refl
 after (l ∷ ls) more h = rw (not_zero l (first_in Nonzero l ls h), after ls more (rest_in Nonzero l ls h)) refl
 
-sizes : (hints : List ℕ) → map unsigned_abs (hint_numbers hints ++ pos 0 ∷ []) ≡ hints ++ 0 ∷ []
+pub sizes : (hints : List ℕ) → map unsigned_abs (hint_numbers hints ++ pos 0 ∷ []) ≡ hints ++ 0 ∷ []
 sizes [] = refl
 sizes (n ∷ ns) = ap (λ r. n ∷ r) (sizes ns)
 
-front : (ns : List ℕ) → but_last (ns ++ 0 ∷ []) ≡ ns
+pub front : (ns : List ℕ) → but_last (ns ++ 0 ∷ []) ≡ ns
 front ns =
     let n : length (ns ++ 0 ∷ []) - 1 ≡ length ns = omega (arith, length-append ns (0 ∷ [])) in
     rw n (take-append_seam ns (0 ∷ []))
 
-step_again : (s : Step) → All Nonzero s.lits → step_from (step_numbers s.id s.lits s.hints) ≡ s
-step_again s h = rw (before s.lits (hint_numbers s.hints ++ pos 0 ∷ []) h, after s.lits (hint_numbers s.hints ++ pos 0 ∷ []) h, sizes s.hints, front s.hints) refl
-
-step-reads : (zs : List ℤ) (s : Step) → step_from zs ≡ s → step_numbers s.id s.lits s.hints ≡ zs → step_with (Some zs) ≡ Some s
-step-reads zs s e f =
-    let same : pointwise int_eq (step_numbers (step_from zs).id (step_from zs).lits (step_from zs).hints) zs ≡ true =
-    (same-ints (step_numbers (step_from zs).id (step_from zs).lits (step_from zs).hints) zs).1 (ap (λ x. step_numbers x.id x.lits x.hints) e ∙ f) in
-    ap (λ b. if b then Some (step_from zs) else None) same ∙ ap Some e
-
-step-found : (zs : List ℤ) (s : Step) → step_with (Some zs) ≡ Some s → (step_from zs ≡ s) × (step_numbers s.id s.lits s.hints ≡ zs)
-step-found zs s = by (pointwise int_eq (step_numbers (step_from zs).id (step_from zs).lits (step_from zs).hints) zs) refl
-  where
-    by : (t : Bool) → pointwise int_eq (step_numbers (step_from zs).id (step_from zs).lits (step_from zs).hints) zs ≡ t → (if t then Some (step_from zs) else None) ≡ Some s
-        → (step_from zs ≡ s) × (step_numbers s.id s.lits s.hints ≡ zs)
-    by true e f =
-        let same = same_Some (step_from zs) s f in
-        (same, subst (λ x. step_numbers x.id x.lits x.hints ≡ zs) same ((same-ints _ zs).0 e))
-    by false e f = absurd (none-some s f)
-
-before-nonzero : (zs : List ℤ) → All Nonzero (before_zero zs)
+pub before-nonzero : (zs : List ℤ) → All Nonzero (before_zero zs)
 before-nonzero [] = All-nil Nonzero
 before-nonzero (z ∷ zs) = by (unsigned_abs z == 0) refl (before-nonzero zs)
   where
     by : (t : Bool) → (unsigned_abs z == 0) ≡ t → All Nonzero (before_zero zs) → All Nonzero (if t then [] else z ∷ before_zero zs)
     by true e h = All-nil Nonzero
     by false e h = All-cons Nonzero z (before_zero zs) (grind (arith, e)) h
-
-from-nonzero : (zs : List ℤ) → All Nonzero (step_from zs).lits
-from-nonzero [] = All-nil Nonzero
-from-nonzero (z ∷ zs) = before-nonzero zs
-
--- a step's text is read as that step, and no other line as a step
-pub text-step : (line : List ℕ) (s : Step) → IsStepText line s → step_of line ≡ Some s
-unfolding step_of
-text-step line s t =
-    ap (λ ws. step_with (numbers_after 115 ws)) t.words
-    ∙ ap step_with (letter-reads 115 t.spellings (step_numbers s.id s.lits s.hints) t.spelled)
-    ∙ step-reads (step_numbers s.id s.lits s.hints) s (step_again s t.nonzero) refl
-
-numbers-text : (line v : List ℕ) (vs : List (List ℕ)) (s : Step) (r : Option (List ℤ)) → words_of line ≡ v ∷ vs → numbers_after 115 (v ∷ vs) ≡ r → step_with r ≡ Some s → IsStepText line s
-numbers-text line v vs s None w f e = absurd (none-some s e)
-numbers-text line v vs s (Some zs) w f e =
-    let l = letter-found 115 v vs zs f in
-    let d = step-found zs s e in record {
-      spellings = vs;
-      words = w ∙ ap (λ x. x ∷ vs) l.0;
-      spelled = subst (SpellAll vs) (sym d.1) l.1;
-      nonzero = subst (λ x. All Nonzero x.lits) d.0 (from-nonzero zs);
-    }
-
-words-text : (line : List ℕ) (s : Step) (ws : List (List ℕ)) → words_of line ≡ ws → step_with (numbers_after 115 ws) ≡ Some s → IsStepText line s
-words-text line s [] w e = absurd (none-some s e)
-words-text line s (v ∷ vs) w e = numbers-text line v vs s (numbers_after 115 (v ∷ vs)) w refl e
-
-pub step-text : (line : List ℕ) (s : Step) → step_of line ≡ Some s → IsStepText line s
-unfolding step_of
-step-text line s e = words-text line s (words_of line) refl e
-
-pub reads_step : (s : Step) → IsStepWithin s → step_of (step_line s) ≡ Some s
-reads_step s h = text-step (step_line s) s (line-is-text s h)
-
--- a step's line is no goal's
-pub step_is_no_goal : (line : List ℕ) (s : Step) → step_of line ≡ Some s → goal_of line ≡ None
-unfolding goal_of
-step_is_no_goal line s e = ap (λ ws. goal_with (numbers_after 103 ws)) (step-text line s e).words
 
 -- a goal's line is read as that goal
 terms_again : (ts : List (ℤ × ℕ)) → terms_from (term_numbers (weighted ts) ++ pos 0 ∷ []) ≡ ts

@@ -1,5 +1,5 @@
 -- What the words of a long line spell, looked at one by one.
-use Rattle.std.proofs.Common.{◌≡◌, ◌≢◌, ℕ, ◌≤◌, ℤ, pos, negsuc, true, List, [], ◌∷◌, ◌++◌, length, Bool, refl, sym, ap, subst, ◌∙◌, append-nil, arith, All, unsigned_abs}
+use Rattle.std.proofs.Common.{◌≡◌, ◌≢◌, ℕ, ◌+◌, ◌≤◌, ℤ, pos, negsuc, true, List, [], ◌∷◌, ◌++◌, length, Bool, refl, sym, ap, subst, ◌∙◌, append-nil, arith, All, unsigned_abs}
 use Rattle.std.specs.Prelude.{◌↔◌, IsTrue}
 use Rattle.std.specs.List.{join_with_byte}
 use Rattle.std.proofs.lemmas.Int.{ints}
@@ -7,7 +7,8 @@ use Rattle.std.proofs.lemmas.Fmt.{decimal_digit}
 use Rattle.std.proofs.lemmas.List.{append_cancel_left}
 use Rattle.std.proofs.lemmas.List.Elements.{All-cons, All-nil}
 use Rattle.std.proofs.lemmas.List.Splits.{join_with_byte-slice_split}
-use Rattle.ps_pb.specs.Steps.{Step}
+use Rattle.ps_pb.specs.declared.step.Step.{Step}
+use Rattle.ps_pb.specs.declared.step.Step.TheVariants.{Clause}
 use Rattle.ps_pb.specs.Constraints.{Constraint}
 use Rattle.ps_pb.specs.Weights.{weighted, are_rising}
 use Rattle.ps_log.specs.Texts.{hint_numbers, term_numbers, step_numbers, goal_numbers}
@@ -16,18 +17,19 @@ use Rattle.ps_log.specs.Spellings.{words_of, IsDecimal, Spells, SpellAll}
 use Rattle.ps_log.specs.GoalNumbers.{TellsRising}
 use Rattle.ps_log.specs.GoalTexts.{IsGoalText}
 use Rattle.ps_log.specs.StepTexts.{IsStepText}
-use Rattle.ps_log.specs.LongTexts.{SpellHints, SpellLits, SpellStep, SpellTerms, SpellGoal, IsCountOf, IsPositiveOf, IsNonzeroOf, IsAnyOf, StartsWith, EndsWithIt, StartsWithTerm, EndsWithTerm}
+use Rattle.ps_log.specs.LongTexts.{SpellHints, SpellLits, SpellClause, SpellTerms, SpellGoal, IsCountOf, IsPositiveOf, IsNonzeroOf, IsAnyOf, StartsWith, EndsWithIt, StartsWithTerm, EndsWithTerm}
 use Rattle.ps_log.proofs.GoalAnswers as goals
 use Rattle.ps_log.proofs.GoalShapes.{pairs-numbers}
 use Rattle.ps_log.proofs.Lengths.{step_is_short, goal_is_short}
 use Rattle.ps_log.proofs.LineAnswers.{spaced, line-joined, same_rest, words-text}
 use Rattle.ps_log.proofs.Spelled.{decimal_of, decimal-spells, value_of_spelling}
-use Rattle.ps_log.proofs.StepAnswers as steps
+use Rattle.ps_log.proofs.ClauseAnswers.{s_is_letter, clause-found}
+use Rattle.ps_log.proofs.StepWords.{text-of, step-text-is-line}
 use Rattle.ps_log.proofs.StepLines.{words-one}
-use Rattle.ps_log.proofs.StepShapes.{rest_in, first_in}
+use Rattle.ps_log.proofs.ClauseShapes.{rest_in, first_in}
 
 -- a text has a word
-no_words : (text : List ℕ) → words_of text ≡ [] → ⊥
+pub no_words : (text : List ℕ) → words_of text ≡ [] → ⊥
 no_words text e =
     let none : ◌≡◌ {A = List ℕ} [] text = sym (ap (join_with_byte 32) e) ∙ join_with_byte-slice_split 32 text in
     let one : words_of text ≡ [] ∷ [] = subst (λ t. words_of t ≡ [] ∷ []) none (words-one [] (All-nil {X = ℕ} (λ b. b ≢ 32))) in
@@ -158,22 +160,22 @@ lits-from-cut text rest e h = record {
   nonzero = All-nil IsNonzeroOf;
 }
 
--- a step begins with its id
-step-tail : (w : List ℕ) (ws : List (List ℕ)) → SpellStep (w ∷ ws) → SpellLits ws
-step-tail w ws h = record { lits = h.lits; hints = h.hints; spelled = h.spelled.1; nonzero = h.nonzero }
+-- a clause begins with its id
+clause-tail : (w : List ℕ) (ws : List (List ℕ)) → SpellClause (w ∷ ws) → SpellLits ws
+clause-tail w ws h = record { lits = h.lits; hints = h.hints; spelled = h.spelled.1; nonzero = h.nonzero }
 
-step-more : (w : List ℕ) (ws : List (List ℕ)) (z : ℤ) → Spells w z → IsCountOf z → SpellLits ws → SpellStep (w ∷ ws)
-step-more w ws (pos n) s c h = record { id = n; lits = h.lits; hints = h.hints; spelled = (s, h.spelled); nonzero = h.nonzero }
-step-more w ws (negsuc n) s c h = absurd (omega (arith, ints, c))
+clause-more : (w : List ℕ) (ws : List (List ℕ)) (z : ℤ) → Spells w z → IsCountOf z → SpellLits ws → SpellClause (w ∷ ws)
+clause-more w ws (pos n) s c h = record { id = n; lits = h.lits; hints = h.hints; spelled = (s, h.spelled); nonzero = h.nonzero }
+clause-more w ws (negsuc n) s c h = absurd (omega (arith, ints, c))
 
-pub step-on : (text rest : List ℕ) → StartsWith IsCountOf text rest → SpellStep (words_of text) ↔ SpellLits (words_of rest)
-step-on text rest f = (
-  λ h. step-tail f.word (words_of rest) (subst SpellStep f.words h),
-  λ h. subst SpellStep (sym f.words) (step-more f.word (words_of rest) f.is.0 f.is.1 f.is.2 h),
+pub clause-on : (text rest : List ℕ) → StartsWith IsCountOf text rest → SpellClause (words_of text) ↔ SpellLits (words_of rest)
+clause-on text rest f = (
+  λ h. clause-tail f.word (words_of rest) (subst SpellClause f.words h),
+  λ h. subst SpellClause (sym f.words) (clause-more f.word (words_of rest) f.is.0 f.is.1 f.is.2 h),
 )
 
-pub step-none : (text : List ℕ) → EndsWithIt IsCountOf text → SpellStep (words_of text) → ⊥
-step-none text ends h = by (words_of text) refl h.spelled
+pub clause-none : (text : List ℕ) → EndsWithIt IsCountOf text → SpellClause (words_of text) → ⊥
+clause-none text ends h = by (words_of text) refl h.spelled
   where
     by : (ws : List (List ℕ)) → words_of text ≡ ws → SpellAll ws (step_numbers h.id h.lits h.hints) → ⊥
     by [] e s = s
@@ -226,20 +228,22 @@ goal-none text ends h = by (words_of text) refl h.spelled
     by [] e s = s
     by (w ∷ ws) e s = nothing_left ws (term_numbers (weighted h.terms)) (pos 0) [] (ends w ws e (h.degree, s.0, tt)) s.1
 
--- a long line that is a step's text is past the limits
+-- a long line that is a clause's text is past the limits
 pub record IsPastStep (line : List ℕ) : Type 0 where
   pub of : Step
   pub text : IsStepText line of
   pub past : IsStepWithin of → ⊥
 
-pub step-past : (line text : List ℕ) → line ≡ 115 ∷ 32 ∷ text → 65536 ≤ length line → SpellStep (words_of text) → IsPastStep line
-step-past line text e long h =
-    let s : Step = record { id = h.id; lits = h.lits; hints = h.hints } in
-    let t : IsStepText line s = steps.text-of line text s e h.spelled h.nonzero in
-    record { of = s; text = t; past = λ w. omega (arith, long, step_is_short s w, ap length (steps.text-is-line line s t w)) }
+pub clause-past : (text : List ℕ) → 65536 ≤ length text + 2 → SpellClause (words_of text) → IsPastStep (115 ∷ 32 ∷ text)
+clause-past text long h =
+    let s : Step = Clause h.id h.lits h.hints in
+    let t : IsStepText (115 ∷ 32 ∷ text) s = text-of 115 text s s_is_letter refl h.spelled h.nonzero in
+    record { of = s; text = t; past = λ w. omega (arith, long, step_is_short s w, ap length (step-text-is-line (115 ∷ 32 ∷ text) s t w)) }
 
-pub step-other : (line text : List ℕ) → line ≡ 115 ∷ 32 ∷ text → (SpellStep (words_of text) → ⊥) → (s : Step) → IsStepText line s → ⊥
-step-other line text e none s t = none (record { id = s.id; lits = s.lits; hints = s.hints; spelled = steps.step-spells line text s e t; nonzero = t.nonzero })
+pub clause-other : (text : List ℕ) → (SpellClause (words_of text) → ⊥) → (s : Step) → IsStepText (115 ∷ 32 ∷ text) s → ⊥
+clause-other text none s t =
+    let f = clause-found text s t in
+    none (record { id = f.line.id; lits = f.line.lits; hints = f.line.hints; spelled = f.spelled; nonzero = f.nonzero })
 
 -- a long line that is a goal's text is past the limits
 pub record IsPastGoal (line : List ℕ) : Type 0 where
@@ -287,5 +291,5 @@ terms-more-looked text rest after h f = chain h (terms-on rest after f)
 pub terms-told : (text rest : List ℕ) (b : Bool) → SpellTerms (words_of text) ↔ SpellTerms (words_of rest) → EndsWithTerm rest → IsTrue b ↔ (rest ≡ 48 ∷ []) → IsTrue b ↔ SpellTerms (words_of text)
 terms-told text rest b h e z = let end = terms-end rest e in (λ t. h.1 (end.1 (z.0 t)), λ s. z.1 (end.0 (h.0 s)))
 
-pub step-told : (text rest : List ℕ) (b : Bool) → StartsWith IsCountOf text rest → IsTrue b ↔ SpellLits (words_of rest) → IsTrue b ↔ SpellStep (words_of text)
-step-told text rest b f z = let on = step-on text rest f in (λ t. on.1 (z.0 t), λ s. z.1 (on.0 s))
+pub clause-told : (text rest : List ℕ) (b : Bool) → StartsWith IsCountOf text rest → IsTrue b ↔ SpellLits (words_of rest) → IsTrue b ↔ SpellClause (words_of text)
+clause-told text rest b f z = let on = clause-on text rest f in (λ t. on.1 (z.0 t), λ s. z.1 (on.0 s))

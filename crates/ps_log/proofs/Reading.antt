@@ -8,8 +8,9 @@ use Rattle.std.proofs.lemmas.Bool.{eqb-true}
 use Rattle.ps_io.specs.LineText.{with_word}
 use Rattle.ps_pb.specs.Weights.{Weighted, weighted, size_sum}
 use Rattle.ps_pb.specs.Constraints.{Constraint}
-use Rattle.ps_pb.specs.Steps.{Step}
-use Rattle.ps_log.specs.Texts.{with_number, with_numbers, hint_numbers, term_numbers, step_numbers, goal_numbers, step_line, goal_line}
+use Rattle.ps_pb.specs.declared.step.Step.{Step}
+use Rattle.ps_pb.specs.declared.step.Step.TheVariants.{Clause, Delete, Add, Multiply, Divide, Saturate}
+use Rattle.ps_log.specs.Texts.{with_number, with_numbers, hint_numbers, term_numbers, goal_numbers, letter_of, numbers_of, step_line, goal_line}
 use Rattle.ps_log.specs.Limits.{IsId, IsStepWithin, IsGoalWithin}
 use Rattle.ps_pb.specs.Limits.{IsLiteral}
 use Rattle.ps_log.proofs.Parts.{Lacks, Lacks-append}
@@ -85,18 +86,34 @@ All-terms (t ∷ ts) more h s m =
 All-zero : All Small (pos 0 ∷ [])
 All-zero = All-cons (pos 0) [] (omega arith) (λ k d lt. absurd (omega (arith, lt)))
 
-pub step_small : (s : Step) → IsStepWithin s → All Small (step_numbers s.id s.lits s.hints)
-step_small s h =
-    All-cons (pos s.id) _ (omega (arith, h.id.1))
-    (All-lits s.lits _ h.lits (All-cons (pos 0) _ (omega arith) (All-hints s.hints _ h.hints All-zero)))
+All-none : All Small []
+All-none = λ k d lt. absurd (omega (arith, lt))
+
+pub step_small : (s : Step) → IsStepWithin s → All Small (numbers_of s)
+step_small (Clause id lits hints) h =
+    All-cons (pos id) _ (omega (arith, h.id.1))
+    (All-lits lits _ h.lits (All-cons (pos 0) _ (omega arith) (All-hints hints _ h.hints All-zero)))
+step_small (Delete id) h = All-cons (pos id) [] (omega (arith, h.1)) All-none
+step_small (Add id left right) h = All-cons (pos id) (pos left ∷ pos right ∷ []) (omega (arith, h.0.1)) (All-cons (pos left) (pos right ∷ []) (omega (arith, h.1.1)) (All-cons (pos right) [] (omega (arith, h.2.1)) All-none))
+step_small (Multiply id of by) h = All-cons (pos id) (pos of ∷ by ∷ []) (omega (arith, h.0.1)) (All-cons (pos of) (by ∷ []) (omega (arith, h.1.1)) (All-cons by [] (omega (arith, h.2.1)) All-none))
+step_small (Divide id of by) h = All-cons (pos id) (pos of ∷ by ∷ []) (omega (arith, h.0.1)) (All-cons (pos of) (by ∷ []) (omega (arith, h.1.1)) (All-cons by [] (omega (arith, h.2.1)) All-none))
+step_small (Saturate id of) h = All-cons (pos id) (pos of ∷ []) (omega (arith, h.0.1)) (All-cons (pos of) [] (omega (arith, h.1.1)) All-none)
 
 pub goal_small : (goal : Constraint) → IsGoalWithin goal → All Small (goal_numbers goal.degree (weighted goal.terms))
 goal_small goal h =
     All-cons goal.degree _ (omega (arith, h.normal.narrow)) (All-terms (weighted goal.terms) _ h.lits (omega (arith, h.normal.narrow)) All-zero)
 
+letter_alone : (s : Step) → Lacks 10 (letter_of s ∷ [])
+letter_alone (Clause id lits hints) = (refl, tt)
+letter_alone (Delete id) = (refl, tt)
+letter_alone (Add id left right) = (refl, tt)
+letter_alone (Multiply id of by) = (refl, tt)
+letter_alone (Divide id of by) = (refl, tt)
+letter_alone (Saturate id of) = (refl, tt)
+
 pub step-one_line : (s : Step) → IsStepWithin s → Lacks 10 (step_line s)
 unfolding step_line
-step-one_line s h = one_line (115 ∷ []) (step_numbers s.id s.lits s.hints) (refl, tt) (step_small s h)
+step-one_line s h = one_line (letter_of s ∷ []) (numbers_of s) (letter_alone s) (step_small s h)
 
 pub goal-one_line : (goal : Constraint) → IsGoalWithin goal → Lacks 10 (goal_line goal)
 unfolding goal_line

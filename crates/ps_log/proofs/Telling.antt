@@ -7,11 +7,12 @@ use Rattle.std.proofs.lemmas.List.Sums.{fold-append}
 use Rattle.ps_io.specs.Transfer.{Appends, AppendsPrefix}
 use Rattle.ps_io.specs.LineText.{lines_bytes}
 use Rattle.ps_pb.specs.Constraints.{Constraint}
-use Rattle.ps_pb.specs.Steps.{Step}
+use Rattle.ps_pb.specs.declared.step.Step.{Step}
 use Rattle.ps_log.specs.Texts.{step_line, goal_line}
 use Rattle.ps_log.specs.Limits.{IsStepWithin, IsGoalWithin}
 use Rattle.ps_log.specs.Told.{parts_after, rest_after, Proof, with_step, with_goal, after_line, proof_of, proof_if, goal_in, steps_in, ends_whole, step_of}
-use Rattle.ps_log.proofs.LineShapes.{reads_step, step_is_no_goal, reads_goal}
+use Rattle.ps_log.proofs.LineShapes.{reads_goal}
+use Rattle.ps_log.proofs.StepsTold.{reads_step, step_is_no_goal}
 use Rattle.ps_log.proofs.Parts.{Lacks, parts-append, rest-append, parts-none, parts-one, rest-closed, Lacks-prefix}
 use Rattle.ps_log.proofs.Reading.{step-one_line, goal-one_line}
 

@@ -12,5 +12,6 @@ pub mod Logs
 pub mod TextLogs
 pub mod Lines
 pub mod Numbers
+pub mod Counts
 pub mod GoalNumbers
 pub mod LongTexts

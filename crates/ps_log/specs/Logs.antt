@@ -3,7 +3,7 @@ use Rattle.std.specs.Prelude.{ℕ, ◌≡◌, ◌≤◌, List, [], ◌++◌, Opt
 use Rattle.std.specs.Option.{option_map}
 use Rattle.ps_io.specs.Causes.{next_count}
 use Rattle.ps_pb.specs.Constraints.{Constraint}
-use Rattle.ps_pb.specs.Steps.{Step}
+use Rattle.ps_pb.specs.declared.step.Step.{Step}
 use Rattle.ps_log.specs.declared.error.LogError.{LogError}
 use Rattle.ps_log.specs.declared.error.LogError.TheVariants.{Fault, NoMemory}
 

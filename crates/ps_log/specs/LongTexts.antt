@@ -1,4 +1,4 @@
--- What words of a step or a goal spell, with numbers of any size, and what stands at the front of a text.
+-- What words of a clause or a goal spell, with numbers of any size, and what stands at the front of a text.
 use Rattle.std.specs.Prelude.{ℕ, ◌≡◌, ◌≤◌, ◌≤ℤ◌, ℤ, pos, List, [], ◌∷◌, ◌++◌, All, unsigned_abs}
 use Rattle.ps_pb.specs.Weights.{weighted}
 use Rattle.ps_log.specs.Spellings.{words_of, Spells, SpellAll}
@@ -16,8 +16,8 @@ pub record SpellLits (words : List (List ℕ)) : Type 0 where
   pub spelled : SpellAll words (lits ++ (pos 0 ∷ (hint_numbers hints ++ pos 0 ∷ [])))
   pub nonzero : All (λ l. 1 ≤ unsigned_abs l) lits
 
--- words spell the numbers of a step
-pub record SpellStep (words : List (List ℕ)) : Type 0 where
+-- words spell the numbers of a clause
+pub record SpellClause (words : List (List ℕ)) : Type 0 where
   pub id : ℕ
   pub lits : List ℤ
   pub hints : List ℕ

@@ -3,9 +3,10 @@ use Rattle.std.specs.Prelude.{ℕ, suc, ◌+◌, ◌≡◌, ◌≢◌, ◌≤◌
 use Rattle.std.specs.Prelude.{◌∷◌, ◌++◌, map, All, length, unsigned_abs, Result, Ok, Err, Option, Some, None, ⊤}
 use Rattle.std.specs.Str.Parse.{digits_value}
 use Rattle.ps_log.specs.Spellings.{words_of, IsPlain, IsDecimal, Spells, SpellAll}
-use Rattle.ps_pb.specs.Steps.{Step}
+use Rattle.ps_pb.specs.declared.step.Step.{Step}
+use Rattle.ps_pb.specs.declared.step.Step.TheVariants.{Clause, Delete, Add, Multiply, Divide, Saturate}
 use Rattle.ps_log.specs.Texts.{hint_numbers}
-use Rattle.ps_log.specs.Limits.{IsId, IsStepWithin}
+use Rattle.ps_log.specs.Limits.{IsId, IsClauseWithin}
 use Rattle.ps_log.specs.declared.limits.TheConstants.{MOST_HINTS}
 use Rattle.ps_pb.specs.Limits.{IsLiteral}
 use Rattle.ps_pb.specs.declared.limits.TheConstants.{MOST_SIZE}
@@ -87,14 +88,14 @@ AreCountsAndZero numbers counts = (numbers ≡ counts ++ pos 0 ∷ []) × All (�
 abbrev pub LacksCounts : List ℤ → Type 0
 LacksCounts numbers = (counts : List ℤ) → numbers ≡ counts ++ pos 0 ∷ [] → All (λ n. pos 0 ≤ℤ n) counts → ⊥
 
--- numbers are those of a step: its id, its literals, 0, its hints, 0
+-- numbers are those of a clause: its id, its literals, 0, its hints, 0
 pub record AreParts (numbers : List ℤ) (id : ℤ) (lits hints : List ℤ) : Type 0 where
   pub is : numbers ≡ id ∷ (lits ++ (pos 0 ∷ (hints ++ pos 0 ∷ [])))
   pub id_counts : pos 0 ≤ℤ id
   pub nonzero : All (λ l. 1 ≤ unsigned_abs l) lits
   pub hints_count : All (λ h. pos 0 ≤ℤ h) hints
 
--- numbers are those of some step
+-- numbers are those of some clause
 pub record HasParts (numbers : List ℤ) : Type 0 where
   pub id : ℤ
   pub lits : List ℤ
@@ -124,17 +125,19 @@ abbrev pub IsIdOf : ℤ → Option ℕ → Type 0
 IsIdOf n None = (id : ℕ) → pos id ≡ n → IsId id → ⊥
 IsIdOf n (Some id) = (pos id ≡ n) × IsId id
 
--- a step has these numbers
-pub record HasNumbers (s : Step) (id : ℤ) (lits hints : List ℤ) : Type 0 where
-  pub id_is : pos s.id ≡ id
-  pub lits_are : s.lits ≡ lits
-  pub hints_are : hint_numbers s.hints ≡ hints
+-- a clause has these numbers
+pub record HasNumbers (s_id : ℕ) (s_lits : List ℤ) (s_hints : List ℕ) (id : ℤ) (lits hints : List ℤ) : Type 0 where
+  pub id_is : pos s_id ≡ id
+  pub lits_are : s_lits ≡ lits
+  pub hints_are : hint_numbers s_hints ≡ hints
 
--- the step within the limits that has these numbers
-abbrev pub IsStepOf : ℤ → List ℤ → List ℤ → Result Step LineError → Type 0
-IsStepOf id lits hints (Ok s) = HasNumbers s id lits hints × IsStepWithin s
-IsStepOf id lits hints (Err Truncated) = ⊥
-IsStepOf id lits hints (Err BadByte) = ⊥
-IsStepOf id lits hints (Err NotCanonical) = ⊥
-IsStepOf id lits hints (Err TooLarge) = (s : Step) → HasNumbers s id lits hints → IsStepWithin s → ⊥
-IsStepOf id lits hints (Err NoMemory) = ⊤
+-- the clause within the limits that has these numbers
+abbrev pub IsClauseOf : ℤ → List ℤ → List ℤ → Result Step LineError → Type 0
+IsClauseOf id lits hints (Ok (Clause i ls hs)) = HasNumbers i ls hs id lits hints × IsClauseWithin i ls hs
+IsClauseOf id lits hints (Ok s) = ⊥
+IsClauseOf id lits hints (Err Truncated) = ⊥
+IsClauseOf id lits hints (Err BadByte) = ⊥
+IsClauseOf id lits hints (Err NotCanonical) = ⊥
+IsClauseOf id lits hints (Err TooLarge) = (i : ℕ) (ls : List ℤ) (hs : List ℕ) → HasNumbers i ls hs id lits hints
+    → IsClauseWithin i ls hs → ⊥
+IsClauseOf id lits hints (Err NoMemory) = ⊤

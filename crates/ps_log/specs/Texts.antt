@@ -3,7 +3,8 @@ use Rattle.std.specs.Prelude.{ℕ, ℤ, pos, List, [], ◌∷◌, ◌++◌, fold
 use Rattle.std.specs.Fmt.{signed_decimal}
 use Rattle.ps_io.specs.LineText.{with_word}
 use Rattle.ps_pb.specs.Constraints.{Constraint}
-use Rattle.ps_pb.specs.Steps.{Step}
+use Rattle.ps_pb.specs.declared.step.Step.{Step}
+use Rattle.ps_pb.specs.declared.step.Step.TheVariants.{Clause, Delete, Add, Multiply, Divide, Saturate}
 use Rattle.ps_pb.specs.Weights.{Weighted, weighted}
 
 -- a line with one more number
@@ -22,13 +23,31 @@ hint_numbers hints = flat_map (λ hint. pos hint ∷ []) hints
 abbrev pub term_numbers : Weighted → List ℤ
 term_numbers terms = flat_map (λ t. t.1 ∷ t.0 ∷ []) terms
 
--- the numbers of a step: its id, its literals, 0, its hints, 0
+-- the numbers of a clause: its id, its literals, 0, its hints, 0
 abbrev pub step_numbers : ℕ → List ℤ → List ℕ → List ℤ
 step_numbers id lits hints = pos id ∷ (lits ++ (pos 0 ∷ (hint_numbers hints ++ pos 0 ∷ [])))
 
--- a step's line: `s` and its numbers
+-- the letter of a step's line
+abbrev pub letter_of : Step → ℕ
+letter_of (Clause id lits hints) = 115
+letter_of (Delete id) = 100
+letter_of (Add id left right) = 97
+letter_of (Multiply id of by) = 109
+letter_of (Divide id of by) = 118
+letter_of (Saturate id of) = 117
+
+-- the numbers of a step's line
+abbrev pub numbers_of : Step → List ℤ
+numbers_of (Clause id lits hints) = step_numbers id lits hints
+numbers_of (Delete id) = pos id ∷ []
+numbers_of (Add id left right) = pos id ∷ pos left ∷ pos right ∷ []
+numbers_of (Multiply id of by) = pos id ∷ pos of ∷ by ∷ []
+numbers_of (Divide id of by) = pos id ∷ pos of ∷ by ∷ []
+numbers_of (Saturate id of) = pos id ∷ pos of ∷ []
+
+-- a step's line: its letter and its numbers
 unfoldable pub step_line : Step → List ℕ
-step_line s = with_numbers (115 ∷ []) (step_numbers s.id s.lits s.hints)
+step_line s = with_numbers (letter_of s ∷ []) (numbers_of s)
 
 -- the numbers of a goal: its degree, coefficient and literal for each term, 0
 abbrev pub goal_numbers : ℤ → Weighted → List ℤ

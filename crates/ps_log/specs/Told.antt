@@ -1,5 +1,5 @@
 -- What bytes tell of a goal and of the steps after it.
-use Rattle.std.specs.Prelude.{ℕ, ◌-◌, ◌==◌, ◌≡◌, nat_lt, ℤ, pos, neg_ℤ, unsigned_abs, List}
+use Rattle.std.specs.Prelude.{ℕ, ◌-◌, ◌==◌, ◌≡◌, nat_lt, int_le, ℤ, pos, neg_ℤ, unsigned_abs, List}
 use Rattle.std.specs.Prelude.{[], ◌∷◌, ◌++◌, map, length, take, fold, slice_index, Bool, true}
 use Rattle.std.specs.Prelude.{false, not, Option, Some, None, is_some, if◌then◌else◌, ◌&&◌, ◌||◌}
 use Rattle.std.specs.Char.{digit_value}
@@ -9,11 +9,12 @@ use Rattle.std.specs.Ordering.{int_eq}
 use Rattle.std.specs.Str.{bytes_eq}
 use Rattle.std.specs.Str.Parse.{digits_value}
 use Rattle.ps_pb.specs.Constraints.{Constraint}
-use Rattle.ps_pb.specs.Steps.{Step}
+use Rattle.ps_pb.specs.declared.step.Step.{Step}
+use Rattle.ps_pb.specs.declared.step.Step.TheVariants.{Clause, Delete, Add, Multiply, Divide, Saturate}
 use Rattle.ps_pb.specs.Weights.{weighted, are_rising}
 use Rattle.ps_log.specs.Logs.{Telling}
 use Rattle.ps_log.specs.Spellings.{words_of}
-use Rattle.ps_log.specs.Texts.{step_numbers, goal_numbers}
+use Rattle.ps_log.specs.Texts.{numbers_of, goal_numbers}
 
 -- the parts of bytes that end with a separator, where one is begun already
 abbrev pub parts_after : ℕ → List ℕ → List ℕ → List (List ℕ)
@@ -63,10 +64,31 @@ after_zero (z ∷ zs) = if unsigned_abs z == 0 then zs else after_zero zs
 abbrev pub but_last : List ℕ → List ℕ
 but_last ns = take (length ns - 1) ns
 
--- the step that has these numbers, if there is one
-abbrev pub step_from : List ℤ → Step
-step_from [] = record { id = 0; lits = []; hints = [] }
-step_from (z ∷ zs) = record { id = unsigned_abs z; lits = before_zero zs; hints = but_last (map unsigned_abs (after_zero zs)) }
+-- the clause that has these numbers, if there is one
+abbrev pub clause_from : List ℤ → Option Step
+clause_from [] = None
+clause_from (z ∷ zs) = Some (Clause (unsigned_abs z) (before_zero zs) (but_last (map unsigned_abs (after_zero zs))))
+
+-- the other steps that have these numbers, by their letter
+abbrev pub delete_from : List ℤ → Option Step
+delete_from [] = None
+delete_from (z ∷ zs) = Some (Delete (unsigned_abs z))
+
+abbrev pub add_from : List ℤ → Option Step
+add_from (i ∷ j ∷ k ∷ zs) = Some (Add (unsigned_abs i) (unsigned_abs j) (unsigned_abs k))
+add_from zs = None
+
+abbrev pub multiply_from : List ℤ → Option Step
+multiply_from (i ∷ j ∷ k ∷ zs) = Some (Multiply (unsigned_abs i) (unsigned_abs j) k)
+multiply_from zs = None
+
+abbrev pub divide_from : List ℤ → Option Step
+divide_from (i ∷ j ∷ k ∷ zs) = Some (Divide (unsigned_abs i) (unsigned_abs j) k)
+divide_from zs = None
+
+abbrev pub saturate_from : List ℤ → Option Step
+saturate_from (i ∷ j ∷ zs) = Some (Saturate (unsigned_abs i) (unsigned_abs j))
+saturate_from zs = None
 
 -- pairs of a coefficient and a literal
 abbrev pub terms_from : List ℤ → List (ℤ × ℕ)
@@ -83,10 +105,29 @@ goal_from (z ∷ zs) = record { terms = terms_from zs; degree = z }
 abbrev pub are_goal_terms : List (ℤ × ℕ) → Bool
 are_goal_terms terms = list_all (λ t. nat_lt 0 t.1) terms && are_rising 0 (weighted terms)
 
--- the step whose numbers these are
-abbrev pub step_with : Option (List ℤ) → Option Step
-step_with None = None
-step_with (Some zs) = let s = step_from zs in if pointwise int_eq (step_numbers s.id s.lits s.hints) zs then Some s else None
+-- no factor is negative
+abbrev pub is_canonical : Step → Bool
+is_canonical (Clause id lits hints) = true
+is_canonical (Delete id) = true
+is_canonical (Add id left right) = true
+is_canonical (Multiply id of by) = int_le (pos 0) by
+is_canonical (Divide id of by) = int_le (pos 0) by
+is_canonical (Saturate id of) = true
+
+-- the step whose numbers these are, if the one that was made of them is
+abbrev pub step_if : Option Step → List ℤ → Option Step
+step_if None zs = None
+step_if (Some s) zs = if pointwise int_eq (numbers_of s) zs && is_canonical s then Some s else None
+
+-- the step whose numbers follow a letter
+abbrev pub step_with : (List ℤ → Option Step) → Option (List ℤ) → Option Step
+step_with from None = None
+step_with from (Some zs) = step_if (from zs) zs
+
+-- the first of two, or else the second
+abbrev pub first_of : Option Step → Option Step → Option Step
+first_of None later = later
+first_of (Some s) later = Some s
 
 -- the goal whose numbers these are
 abbrev pub goal_with : Option (List ℤ) → Option Constraint
@@ -96,7 +137,12 @@ goal_with (Some zs) = let g = goal_from zs in if pointwise int_eq (goal_numbers 
 
 -- the step whose line this is
 unfoldable pub step_of : List ℕ → Option Step
-step_of line = step_with (numbers_after 115 (words_of line))
+step_of line = first_of (step_with clause_from (numbers_after 115 (words_of line)))
+    (first_of (step_with delete_from (numbers_after 100 (words_of line)))
+    (first_of (step_with add_from (numbers_after 97 (words_of line)))
+    (first_of (step_with multiply_from (numbers_after 109 (words_of line)))
+    (first_of (step_with divide_from (numbers_after 118 (words_of line)))
+    (step_with saturate_from (numbers_after 117 (words_of line)))))))
 
 -- the goal whose line this is
 unfoldable pub goal_of : List ℕ → Option Constraint

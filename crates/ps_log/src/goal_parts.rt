@@ -6,8 +6,8 @@ ghost use Rattle.ps_pb.specs.Weighing.{linear};
 ghost use Rattle.ps_log.specs.GoalNumbers.{are_terms, AreGoalParts, HasGoalParts, LacksTerms};
 ghost use Rattle.ps_log.specs.GoalNumbers.{AreTermsOf, IsGoalOf};
 
+use crate::clause_parts::lit;
 use crate::line_error::LineError;
-use crate::step_parts::lit;
 use ps_pb::{Constraint, Terms};
 use std::alloc::Global;
 

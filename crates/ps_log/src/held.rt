@@ -85,9 +85,28 @@ impl ProofSink for HeldLog {
 fn copy_step(alloc: Global, step: &Step) -> Result<Step, NoMemory>
     ensures { IfOk result (λ held. held ≡ step.now) }
 {
-    Ok(Step {
-        id: step.id,
-        lits: List::from_vec(Vec::from_slice(alloc, step.lits.as_slice())?),
-        hints: List::from_vec(Vec::from_slice(alloc, step.hints.as_slice())?),
-    })
+    match step {
+        Step::Clause { id, lits, hints } => Ok(Step::Clause {
+            id: *id,
+            lits: List::from_vec(Vec::from_slice(alloc, lits.as_slice())?),
+            hints: List::from_vec(Vec::from_slice(alloc, hints.as_slice())?),
+        }),
+        Step::Delete { id } => Ok(Step::Delete { id: *id }),
+        Step::Add { id, left, right } => Ok(Step::Add {
+            id: *id,
+            left: *left,
+            right: *right,
+        }),
+        Step::Multiply { id, of, by } => Ok(Step::Multiply {
+            id: *id,
+            of: *of,
+            by: *by,
+        }),
+        Step::Divide { id, of, by } => Ok(Step::Divide {
+            id: *id,
+            of: *of,
+            by: *by,
+        }),
+        Step::Saturate { id, of } => Ok(Step::Saturate { id: *id, of: *of }),
+    }
 }

@@ -2,7 +2,7 @@
 ghost use Rattle.std.specs.Prelude.{◌≡◌, ◌↔◌, ◌<◌, ◌^◌, ℕ, List, Some, None};
 ghost use Rattle.std.specs.Fmt.{decimal};
 ghost use Rattle.ps_pb.specs.Constraints.{Constraint};
-ghost use Rattle.ps_pb.specs.Steps.{Step};
+ghost use Rattle.ps_pb.specs.declared.step.Step.{Step};
 ghost use Rattle.ps_log.specs.FirstLines.{HaveOneText};
 ghost use Rattle.ps_log.specs.GoalTexts.{IsGoalText};
 ghost use Rattle.ps_log.specs.Limits.{IsGoalWithin, IsStepWithin};

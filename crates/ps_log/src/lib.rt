@@ -1,6 +1,8 @@
 //! Logs of refutations: goals and steps as lines of text, and where they are handed over.
 #![tactic(auto)]
 
+mod clause_parts;
+mod counts;
 mod error;
 mod fronts;
 mod goal_parts;
@@ -15,8 +17,8 @@ mod numbers;
 mod numeral;
 mod rising;
 mod room;
+mod short_lines;
 mod sink;
-mod step_parts;
 mod step_reader;
 mod text;
 mod text_log;

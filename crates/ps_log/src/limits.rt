@@ -1,13 +1,13 @@
 //! The limits of goals, of steps and of the searches that make them.
 ghost use Rattle.std.specs.Prelude.{◌≡◌, ◌↔◌, ◌<◌, ◌^◌, All, length, IsTrue};
 ghost use Rattle.ps_pb.specs.Limits.{IsLiteral};
-ghost use Rattle.ps_log.specs.Limits.{IsId, IsGoalWithin, IsStepWithin};
+ghost use Rattle.ps_log.specs.Limits.{IsId, IsFactor, IsGoalWithin, IsClauseWithin, IsStepWithin};
 ghost use Rattle.ps_log.specs.Texts.{goal_line, step_line};
 ghost use Rattle.ps_log.specs.declared.limits.TheConstants.{MOST_LITS, MOST_HINTS};
 ghost use Rattle.ps_log.specs.declared.limits.TheConstants.{MOST_CONFLICTS};
 
 use ps_io::LONGEST_LINE;
-use ps_pb::{Constraint, Lit, MOST_IDS, MOST_VARIABLES, Step};
+use ps_pb::{Constraint, Lit, MOST_IDS, MOST_SIZE, MOST_VARIABLES, Step};
 
 /// So many terms, or literals, a goal or a step has at most.
 pub const MOST_LITS: usize = MOST_VARIABLES as usize;
@@ -29,19 +29,42 @@ pub fn limits_have_these_numbers()
     ensures conflicts { MOST_CONFLICTS ≡ 2 ^ 40 }
 {}
 
-/// Whether a step is within the limits: id and hints from 1 to `MOST_IDS`, at most `MOST_LITS`
-/// literals and `MOST_HINTS` hints. The line of such a step is shorter than `LONGEST_LINE`.
+/// Whether a step is within the limits: ids and hints from 1 to `MOST_IDS`, at most `MOST_LITS`
+/// literals and `MOST_HINTS` hints, and factors from 1 to `MOST_SIZE`. The line of such a step is
+/// shorter than `LONGEST_LINE`.
 #[tactic(auto, using(crate::proofs::Lengths::step_is_short))]
 pub fn is_step_within(s: &Step) -> bool
     ensures within { IsTrue result ↔ IsStepWithin s.now }
-    ensures literals { All IsLiteral s.now.lits }
     ensures short { IsStepWithin s.now → length (step_line s.now) < LONGEST_LINE }
 {
-    are_literals(s.lits.as_slice())
-        && s.lits.len() <= MOST_LITS
-        && s.hints.len() <= MOST_HINTS
-        && is_id(&s.id)
-        && are_ids(s.hints.as_slice())
+    match s {
+        Step::Clause { id, lits, hints } => {
+            is_clause_within(id, lits.as_slice(), hints.as_slice())
+        }
+        Step::Delete { id } => is_id(id),
+        Step::Add { id, left, right } => is_id(id) && is_id(left) && is_id(right),
+        Step::Multiply { id, of, by } => is_id(id) && is_id(of) && is_factor(by),
+        Step::Divide { id, of, by } => is_id(id) && is_id(of) && is_factor(by),
+        Step::Saturate { id, of } => is_id(id) && is_id(of),
+    }
+}
+
+fn is_clause_within(id: &u64, lits: &[Lit], hints: &[u64]) -> bool
+    ensures within { IsTrue result ↔ IsClauseWithin id.now lits.now hints.now }
+    ensures literals { All IsLiteral lits.now }
+{
+    are_literals(lits)
+        && lits.len() <= MOST_LITS
+        && hints.len() <= MOST_HINTS
+        && is_id(id)
+        && are_ids(hints)
+}
+
+/// Whether a number is a factor: from 1 to `MOST_SIZE`.
+pub(crate) fn is_factor(by: &i128) -> bool
+    ensures { IsTrue result ↔ IsFactor by.now }
+{
+    1 <= *by && by.unsigned_abs() <= MOST_SIZE
 }
 
 /// Whether a goal is within the limits: at most `MOST_LITS` terms. Each constraint is, since its

@@ -1,9 +1,9 @@
 //! Lines that are too long to be within the limits: their numbers are looked at, and none is kept.
-ghost use Rattle.std.specs.Prelude.{◌≡◌, ◌≤◌, ◌∷◌, [], ◌↔◌, IsTrue, length};
+ghost use Rattle.std.specs.Prelude.{◌≡◌, ◌≤◌, ◌+◌, ◌∷◌, [], ◌↔◌, IsTrue, length};
 ghost use Rattle.ps_log.specs.FirstLines.{IsLineAnswer};
 ghost use Rattle.ps_log.specs.GoalTexts.{IsGoalText};
 ghost use Rattle.ps_log.specs.Limits.{IsGoalWithin, IsStepWithin};
-ghost use Rattle.ps_log.specs.LongTexts.{SpellHints, SpellLits, SpellStep, SpellTerms, SpellGoal};
+ghost use Rattle.ps_log.specs.LongTexts.{SpellHints, SpellLits, SpellClause, SpellTerms, SpellGoal};
 ghost use Rattle.ps_log.specs.Spellings.{words_of};
 ghost use Rattle.ps_log.specs.StepTexts.{IsStepText};
 
@@ -14,13 +14,12 @@ use crate::rising::variables_rise;
 use ps_io::LONGEST_LINE;
 use ps_pb::{Constraint, Step};
 
-/// What is answered of a line that is too long for a step.
-pub(crate) fn long_step(line: &[u8], text: &[u8]) -> Result<Step, LineError>
-    requires text { line.now ≡ 115 ∷ 32 ∷ text.now }
-    requires long { LONGEST_LINE ≤ length line.now }
-    ensures { IsLineAnswer IsStepText IsStepWithin line.now result }
+/// What is answered of a clause's line that is too long.
+pub(crate) fn long_clause(text: &[u8]) -> Result<Step, LineError>
+    requires { LONGEST_LINE ≤ length text.now + 2 }
+    ensures { IsLineAnswer IsStepText IsStepWithin (115 ∷ 32 ∷ text.now) result }
 {
-    if spells_step(text) {
+    if spells_clause(text) {
         Err(LineError::TooLarge)
     } else {
         Err(LineError::NotCanonical)
@@ -43,8 +42,8 @@ pub(crate) fn long_goal(line: &[u8], text: &[u8]) -> Result<Constraint, LineErro
     }
 }
 
-fn spells_step(text: &[u8]) -> bool
-    ensures { IsTrue result ↔ SpellStep (words_of text.now) }
+fn spells_clause(text: &[u8]) -> bool
+    ensures { IsTrue result ↔ SpellClause (words_of text.now) }
 {
     match after_count(text) {
         Some(rest) => spells_lits(rest),

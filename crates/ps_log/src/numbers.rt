@@ -53,6 +53,15 @@ fn add_lits<O: Sink>(lines: &mut Lines<'_, O>, lits: &[Lit])
     }
 }
 
+pub(crate) fn add_numbers<O: Sink>(lines: &mut Lines<'_, O>, numbers: &[i128])
+    requires { length_with lines.old numbers.now < LONGEST_LINE }
+    ensures { AddsNumbers lines.old lines.new numbers.now }
+{
+    for number in numbers {
+        add_degree(lines, number);
+    }
+}
+
 fn add_hints<O: Sink>(lines: &mut Lines<'_, O>, hints: &[u64])
     requires { length_with lines.old (hint_numbers hints.now) < LONGEST_LINE }
     ensures { AddsNumbers lines.old lines.new (hint_numbers hints.now) }

@@ -52,7 +52,8 @@ fn negative(digits: &[u8]) -> Option<i128>
     }
 }
 
-fn size(word: &[u8]) -> Option<u128>
+/// The size that digits without a leading zero spell.
+pub(crate) fn size(word: &[u8]) -> Option<u128>
     ensures size { IsSize word.now result }
     ensures within { IfSome result (λ n. n ≤ MOST_SIZE + 1) }
 {

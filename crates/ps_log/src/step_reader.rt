@@ -1,15 +1,16 @@
 //! Steps that are read.
-ghost use Rattle.std.specs.Prelude.{ℕ, Ok, Err};
-ghost use Rattle.ps_pb.specs.Steps.{Step as StepValue};
+ghost use Rattle.std.specs.Prelude.{ℕ, ◌∷◌, Ok, Err};
+ghost use Rattle.ps_pb.specs.declared.step.Step.{Step as StepValue};
 ghost use Rattle.ps_log.specs.declared.line_error.LineError.{LineError as Refusal};
 ghost use Rattle.ps_log.specs.Limits.{IsStepWithin};
 ghost use Rattle.ps_log.specs.FirstLines.{Gives, IsLineAnswer};
 ghost use Rattle.ps_log.specs.StepTexts.{IsStepText, HasStep, IsStepAnswer, IsStepRefused};
 
-use crate::lettered::{after_letter, are_text_bytes};
+use crate::clause_parts::ClauseParts;
+use crate::lettered::{are_step_bytes, split_letter};
 use crate::line_error::LineError;
-use crate::long_lines::long_step;
-use crate::step_parts::StepParts;
+use crate::long_lines::long_clause;
+use crate::short_lines::{addition, deletion, division, multiplication, saturation};
 use crate::words::{first_line, numbers};
 use ps_io::LONGEST_LINE;
 use ps_pb::Step;
@@ -26,7 +27,7 @@ pub fn read_step(alloc: Global, bytes: &[u8]) -> Result<(Step, u64), LineError>
         Some(line) => line,
         None => return Err(LineError::Truncated),
     };
-    if !are_text_bytes(line, b's') {
+    if !are_step_bytes(line) {
         return Err(LineError::BadByte);
     }
     let step = step_of(alloc, line)?;
@@ -36,19 +37,34 @@ pub fn read_step(alloc: Global, bytes: &[u8]) -> Result<(Step, u64), LineError>
 fn step_of(alloc: Global, line: &[u8]) -> Result<Step, LineError>
     ensures { IsLineAnswer IsStepText IsStepWithin line.now result }
 {
-    let text = match after_letter(line, b's') {
-        Some(text) => text,
+    let (letter, text) = match split_letter(line) {
+        Some(parts) => parts,
         None => return Err(LineError::NotCanonical),
     };
-    if LONGEST_LINE <= line.len() {
-        return long_step(line, text);
+    match letter {
+        b's' => clause(alloc, text),
+        b'd' => deletion(text),
+        b'a' => addition(text),
+        b'm' => multiplication(text),
+        b'v' => division(text),
+        b'u' => saturation(text),
+        _ => Err(LineError::NotCanonical),
+    }
+}
+
+// The clause whose line goes on with this text.
+fn clause(alloc: Global, text: &[u8]) -> Result<Step, LineError>
+    ensures { IsLineAnswer IsStepText IsStepWithin (115 ∷ 32 ∷ text.now) result }
+{
+    if LONGEST_LINE <= text.len() + 2 {
+        return long_clause(text);
     }
     let numbers = match numbers(alloc, text)? {
         Some(numbers) => numbers,
         None => return Err(LineError::NotCanonical),
     };
-    match StepParts::of(numbers.as_slice()) {
-        Some(parts) => parts.step(alloc),
+    match ClauseParts::of(numbers.as_slice()) {
+        Some(parts) => parts.clause(alloc),
         None => Err(LineError::NotCanonical),
     }
 }

@@ -1,4 +1,5 @@
-use Rattle.ps_log.proofs.LineShapes.{text-step, step-text, step_is_no_goal, text-goal, goal-text, reads_goal, reads_step}
+use Rattle.ps_log.proofs.LineShapes.{text-goal, goal-text, reads_goal}
+use Rattle.ps_log.proofs.StepsTold.{text-step, step-text, step_is_no_goal, reads_step}
 use Rattle.ps_log.proofs.laws.lines_are_read.Goals as goal
 
 pub returns-clause-step : goal.returns-clause-step

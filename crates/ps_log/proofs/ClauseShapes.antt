@@ -1,13 +1,18 @@
--- The shape of a step's numbers, also where they are cut off.
+-- The shape of a clause's numbers, also where they are cut off.
 use Rattle.std.proofs.Common.{◌≡◌, ℕ, zero, suc, ◌<◌, ◌≤◌, ◌^◌, ℤ, pos, negsuc, ◌≤ℤ◌, List, [], ◌∷◌, ◌++◌, length, map, min, refl, sym, ap, subst, ◌∙◌, arith, get_or, All, unsigned_abs, length-append, Option, Some, None, IfNone}
 use Rattle.std.proofs.lemmas.Int.{ints}
 use Rattle.std.proofs.lemmas.List.{append_cancel_right, map-append}
 use Rattle.std.proofs.lemmas.List.Elements.{All-cons, All-nil}
-use Rattle.ps_pb.specs.Steps.{Step}
 use Rattle.ps_log.specs.Texts.{step_numbers, hint_numbers}
-use Rattle.ps_log.specs.Limits.{IsId, IsStepWithin}
+use Rattle.ps_log.specs.Limits.{IsId, IsClauseWithin}
 use Rattle.ps_pb.specs.Limits.{IsLiteral}
 use Rattle.ps_log.specs.Numbers.{capped_size, capped, AreParts, HasParts, HasNumbers}
+
+-- the id, the literals and the hints of a clause's line
+pub record ClauseLine : Type 0 where
+  pub id : ℕ
+  pub lits : List ℤ
+  pub hints : List ℕ
 
 abbrev pub Nonzero : ℤ → Type 0
 Nonzero z = 1 ≤ unsigned_abs z
@@ -59,10 +64,10 @@ no-end numbers id rest lits more e f h none p =
     let g : rest ≡ p.lits ++ (pos 0 ∷ (p.hints ++ pos 0 ∷ [])) = tail id p.id rest (p.lits ++ (pos 0 ∷ (p.hints ++ pos 0 ∷ []))) (sym e ∙ p.parts.is) in
     none p.hints (zero-cut lits more p.lits (p.hints ++ pos 0 ∷ []) h p.parts.nonzero (sym f ∙ g)).1 p.parts.hints_count
 
--- the parts of a step's numbers are the step's
-pub step-parts : (numbers : List ℤ) (id : ℤ) (lits hints : List ℤ) (s : Step) → AreParts numbers id lits hints → All Nonzero s.lits
-    → numbers ≡ step_numbers s.id s.lits s.hints → HasNumbers s id lits hints
-step-parts numbers id lits hints s p h e =
+-- the parts of a clause's numbers are the clause's
+pub clause-parts : (numbers : List ℤ) (id : ℤ) (lits hints : List ℤ) (s : ClauseLine) → AreParts numbers id lits hints → All Nonzero s.lits
+    → numbers ≡ step_numbers s.id s.lits s.hints → HasNumbers s.id s.lits s.hints id lits hints
+clause-parts numbers id lits hints s p h e =
     let all : id ∷ (lits ++ (pos 0 ∷ (hints ++ pos 0 ∷ []))) ≡ step_numbers s.id s.lits s.hints = sym p.is ∙ e in
     let z = zero-cut lits (hints ++ pos 0 ∷ []) s.lits (hint_numbers s.hints ++ pos 0 ∷ []) p.nonzero h
     (tail id (pos s.id) (lits ++ (pos 0 ∷ (hints ++ pos 0 ∷ []))) (s.lits ++ (pos 0 ∷ (hint_numbers s.hints ++ pos 0 ∷ []))) all) in record {
@@ -75,32 +80,6 @@ step-parts numbers id lits hints s p h e =
 pub hints-count : (hints : List ℕ) → All Counts (hint_numbers hints)
 hints-count [] = All-nil Counts
 hints-count (n ∷ ns) = All-cons Counts (pos n) (hint_numbers ns) (omega (arith, ints)) (hints-count ns)
-
-pub own-parts : (s : Step) → All Nonzero s.lits → AreParts (step_numbers s.id s.lits s.hints) (pos s.id) s.lits (hint_numbers s.hints)
-own-parts s h = record { is = refl; id_counts = omega (arith, ints); nonzero = h; hints_count = hints-count s.hints }
-
-same-hint : (m n : ℕ) → pos m ≡ pos n → m ≡ n
-same-hint m n e = ap unsigned_abs e
-
-pub same-hints : (ms ns : List ℕ) → hint_numbers ms ≡ hint_numbers ns → ms ≡ ns
-same-hints [] [] e = refl
-same-hints [] (n ∷ ns) e = absurd (omega (arith, ap length e))
-same-hints (m ∷ ms) [] e = absurd (omega (arith, ap length e))
-same-hints (m ∷ ms) (n ∷ ns) e =
-    ap (λ x. x ∷ ms) (same-hint m n (head (pos m) (pos n) (hint_numbers ms) (hint_numbers ns) e))
-    ∙ ap (λ l. n ∷ l) (same-hints ms ns (tail (pos m) (pos n) (hint_numbers ms) (hint_numbers ns) e))
-
-same-step : (s t : Step) → s.id ≡ t.id → s.lits ≡ t.lits → s.hints ≡ t.hints → s ≡ t
-same-step s t a b c =
-    ap (λ x. record { id = x; lits = s.lits; hints = s.hints }) a
-    ∙ ap (λ x. record { id = t.id; lits = x; hints = s.hints }) b
-    ∙ ap (λ x. record { id = t.id; lits = t.lits; hints = x }) c
-
--- a step is known by its numbers
-pub step-by-numbers : (s t : Step) → All Nonzero s.lits → All Nonzero t.lits → step_numbers s.id s.lits s.hints ≡ step_numbers t.id t.lits t.hints → s ≡ t
-step-by-numbers s t p q e =
-    let n = step-parts (step_numbers s.id s.lits s.hints) (pos s.id) s.lits (hint_numbers s.hints) t (own-parts s p) q e in
-    same-step s t (same-hint s.id t.id (sym n.id_is)) (sym n.lits_are) (same-hints s.hints t.hints (sym n.hints_are))
 
 -- cut off numbers
 capped-abs : (z : ℤ) → unsigned_abs (capped z) ≡ capped_size (unsigned_abs z)
@@ -168,31 +147,31 @@ uncapped-lits (z ∷ zs) (x ∷ xs) rest e h =
       cut = r.cut;
     }
 
--- the step whose numbers were cut off
-pub record WholeStep (exact : List ℤ) : Type 0 where
-  pub step : Step
-  pub same : exact ≡ step_numbers step.id step.lits step.hints
-  pub nonzero : All Nonzero step.lits
+-- the clause whose numbers were cut off
+pub record WholeClause (exact : List ℤ) : Type 0 where
+  pub clause : ClauseLine
+  pub same : exact ≡ step_numbers clause.id clause.lits clause.hints
+  pub nonzero : All Nonzero clause.lits
 
-pub uncapped-step : (exact : List ℤ) (id : ℤ) (lits hints : List ℤ) → AreParts (map capped exact) id lits hints → WholeStep exact
-uncapped-step [] id lits hints p = absurd (omega (arith, ap length p.is))
-uncapped-step (z ∷ zs) id lits hints p =
+pub uncapped-clause : (exact : List ℤ) (id : ℤ) (lits hints : List ℤ) → AreParts (map capped exact) id lits hints → WholeClause exact
+uncapped-clause [] id lits hints p = absurd (omega (arith, ap length p.is))
+uncapped-clause (z ∷ zs) id lits hints p =
     let rest = lits ++ (pos 0 ∷ (hints ++ pos 0 ∷ [])) in
     let count : Counts (capped z) = subst Counts (sym (head (capped z) id (map capped zs) rest p.is)) p.id_counts in
     let l = uncapped-lits zs lits (hints ++ pos 0 ∷ []) (tail (capped z) id (map capped zs) rest p.is) p.nonzero in
     let h = uncapped-hints l.more hints l.cut p.hints_count in record {
-      step = record { id = unsigned_abs z; lits = l.lits; hints = h.hints };
+      clause = record { id = unsigned_abs z; lits = l.lits; hints = h.hints };
       same = ap (λ x. x ∷ zs) (uncapped-count z count) ∙ ap (λ r. pos (unsigned_abs z) ∷ r) (l.same ∙ ap (λ r. l.lits ++ pos 0 ∷ r) h.same);
       nonzero = l.nonzero;
     }
 
--- a step's numbers have parts, also where they are cut off
+-- a clause's numbers have parts, also where they are cut off
 capped-hints : (hints : List ℕ) → map capped (hint_numbers hints) ≡ hint_numbers (map capped_size hints)
 capped-hints [] = refl
 capped-hints (n ∷ ns) = ap (λ r. pos (capped_size n) ∷ r) (capped-hints ns)
 
-pub capped-step : (s : Step) → map capped (step_numbers s.id s.lits s.hints) ≡ step_numbers (capped_size s.id) (map capped s.lits) (map capped_size s.hints)
-capped-step s =
+pub capped-clause : (s : ClauseLine) → map capped (step_numbers s.id s.lits s.hints) ≡ step_numbers (capped_size s.id) (map capped s.lits) (map capped_size s.hints)
+capped-clause s =
     ap (λ r. pos (capped_size s.id) ∷ r)
     (map-append capped s.lits (pos 0 ∷ (hint_numbers s.hints ++ pos 0 ∷ []))
     ∙ ap (λ r. map capped s.lits ++ (pos 0 ∷ r)) (map-append capped (hint_numbers s.hints) (pos 0 ∷ []) ∙ ap (λ r. r ++ pos 0 ∷ []) (capped-hints s.hints)))
@@ -201,13 +180,13 @@ nonzero-map : (zs : List ℤ) → All Nonzero zs → All Nonzero (map capped zs)
 nonzero-map [] h = All-nil Nonzero
 nonzero-map (z ∷ zs) h = All-cons Nonzero (capped z) (map capped zs) (capped-nonzero z (first_in Nonzero z zs h)) (nonzero-map zs (rest_in Nonzero z zs h))
 
-pub capped-parts : (s : Step) → All Nonzero s.lits → HasParts (map capped (step_numbers s.id s.lits s.hints))
+pub capped-parts : (s : ClauseLine) → All Nonzero s.lits → HasParts (map capped (step_numbers s.id s.lits s.hints))
 capped-parts s h = record {
   id = pos (capped_size s.id);
   lits = map capped s.lits;
   hints = hint_numbers (map capped_size s.hints);
   parts = record {
-    is = capped-step s;
+    is = capped-clause s;
     id_counts = omega (arith, ints);
     nonzero = nonzero-map s.lits h;
     hints_count = hints-count (map capped_size s.hints);
@@ -230,13 +209,13 @@ same-sizes : (ns : List ℕ) → All IsId ns → map capped_size ns ≡ ns
 same-sizes [] h = refl
 same-sizes (n ∷ ns) h = rw (same-size n (first_in IsId n ns h).1, same-sizes ns (rest_in IsId n ns h)) refl
 
-pub uncapped-within : (s : Step) → IsStepWithin s → map capped (step_numbers s.id s.lits s.hints) ≡ step_numbers s.id s.lits s.hints
-uncapped-within s h = capped-step s ∙ rw (same-size s.id h.id.1, same-lits s.lits h.lits, same-sizes s.hints h.hints) refl
+pub uncapped-within : (s : ClauseLine) → IsClauseWithin s.id s.lits s.hints → map capped (step_numbers s.id s.lits s.hints) ≡ step_numbers s.id s.lits s.hints
+uncapped-within s h = capped-clause s ∙ rw (same-size s.id h.id.1, same-lits s.lits h.lits, same-sizes s.hints h.hints) refl
 
 nonzero-lits : (zs : List ℤ) → All IsLiteral zs → All Nonzero zs
 nonzero-lits zs h = λ k d lt. (h k d lt).0
 
-pub within-nonzero : (s : Step) → IsStepWithin s → All Nonzero s.lits
+pub within-nonzero : (s : ClauseLine) → IsClauseWithin s.id s.lits s.hints → All Nonzero s.lits
 within-nonzero s h = nonzero-lits s.lits h.lits
 
 -- numbers that aren't cut off
@@ -254,7 +233,7 @@ fit-hints (n ∷ ns) more h m = All-cons Fit (pos n) (hint_numbers ns ++ more) (
 fit-zero : All Fit (pos 0 ∷ [])
 fit-zero = All-cons Fit (pos 0) [] (omega arith) (All-nil Fit)
 
-pub within-fit : (s : Step) → IsStepWithin s → All Fit (step_numbers s.id s.lits s.hints)
+pub within-fit : (s : ClauseLine) → IsClauseWithin s.id s.lits s.hints → All Fit (step_numbers s.id s.lits s.hints)
 within-fit s h =
     let rest = pos 0 ∷ (hint_numbers s.hints ++ pos 0 ∷ []) in
     All-cons Fit (pos s.id) (s.lits ++ rest) (omega (arith, h.id.1))

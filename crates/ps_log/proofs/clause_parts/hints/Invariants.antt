@@ -1,7 +1,7 @@
 use Rattle.std.proofs.Common.{◌≡◌, All, take}
 use Rattle.ps_log.specs.Texts.{hint_numbers}
 use Rattle.ps_log.specs.Limits.{IsId}
-use Rattle.ps_log.proofs.step_parts.hints.Given as goal
+use Rattle.ps_log.proofs.clause_parts.hints.Given as goal
 
 abbrev pub invariant-loop-number : goal.invariant-loop-number
 invariant-loop-number l = record {

@@ -1,8 +1,8 @@
 use Rattle.std.proofs.Common.{◌≡◌, ◌∙◌, pos, arith}
 use Rattle.std.proofs.lemmas.List.{take_all}
 use Rattle.ps_log.specs.Texts.{hint_numbers}
-use Rattle.ps_log.proofs.StepShapes.{too-many-hints, no-hint, hints-fit}
-use Rattle.ps_log.proofs.step_parts.hints.Goals as goal
+use Rattle.ps_log.proofs.ClauseShapes.{too-many-hints, no-hint, hints-fit}
+use Rattle.ps_log.proofs.clause_parts.hints.Goals as goal
 
 pub returns-then-numbers-gt-MOST_HINTS : goal.returns-then-numbers-gt-MOST_HINTS
 returns-then-numbers-gt-MOST_HINTS c = too-many-hints c.args.numbers.now c.if-numbers-gt-MOST_HINTS.true

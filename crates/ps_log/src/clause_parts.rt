@@ -1,9 +1,9 @@
-//! The parts of a step among its numbers.
+//! The parts of a clause among its numbers.
 ghost use Rattle.std.specs.Prelude.{◌≡◌, ◌≤◌, ◌≤ℤ◌, ◌↔◌, ◌∷◌, pos};
 ghost use Rattle.std.specs.Prelude.{All, IsTrue, IfSome, IfNone, IsSome, unsigned_abs};
 ghost use Rattle.ps_pb.specs.Limits.{IsLiteral};
 ghost use Rattle.ps_log.specs.Numbers.{LacksCount, IsCutAtZero, AreCountsAndZero, LacksCounts};
-ghost use Rattle.ps_log.specs.Numbers.{AreParts, HasParts, AreLits, AreHints, IsIdOf, IsStepOf};
+ghost use Rattle.ps_log.specs.Numbers.{AreParts, HasParts, AreLits, AreHints, IsIdOf, IsClauseOf};
 
 use crate::limits::{MOST_HINTS, MOST_LITS, is_id};
 use crate::line_error::LineError;
@@ -12,30 +12,30 @@ use ps_io::List;
 use ps_pb::{Hints, Lit, Lits, Step};
 use std::alloc::Global;
 
-/// The numbers of a step in its parts.
+/// The numbers of a clause in its parts.
 #[derive(Clone, Copy)]
-pub(crate) struct StepParts<'n> {
+pub(crate) struct ClauseParts<'n> {
     id: i128,
     lits: &'n [i128],
     hints: &'n [i128],
 }
 
-impl<'n> StepParts<'n> {
-    /// The parts of a step's numbers: the first 0 after the id ends the literals, and the last
+impl<'n> ClauseParts<'n> {
+    /// The parts of a clause's numbers: the first 0 after the id ends the literals, and the last
     /// number is a 0, which ends the hints.
-    pub(crate) fn of(numbers: &'n [i128]) -> Option<StepParts<'n>>
+    pub(crate) fn of(numbers: &'n [i128]) -> Option<ClauseParts<'n>>
         ensures found { IfSome result (λ p. AreParts numbers.now p.id p.lits.now p.hints.now) }
         ensures none { IfNone result (HasParts numbers.now → ⊥) }
     {
         let (id, rest) = split_count(numbers)?;
         let (lits, rest) = split_at_zero(rest)?;
         let hints = counts_before_zero(rest)?;
-        Some(StepParts { id, lits, hints })
+        Some(ClauseParts { id, lits, hints })
     }
 
-    /// The step that has these parts, if it is within the limits.
-    pub(crate) fn step(&self, alloc: Global) -> Result<Step, LineError>
-        ensures { IsStepOf self.now.id self.now.lits.now self.now.hints.now result }
+    /// The clause that has these parts, if it is within the limits.
+    pub(crate) fn clause(&self, alloc: Global) -> Result<Step, LineError>
+        ensures { IsClauseOf self.now.id self.now.lits.now self.now.hints.now result }
     {
         let id = match id(&self.id) {
             Some(id) => id,
@@ -43,7 +43,7 @@ impl<'n> StepParts<'n> {
         };
         let lits = lits(alloc, self.lits)?;
         let hints = hints(alloc, self.hints)?;
-        Ok(Step { id, lits, hints })
+        Ok(Step::Clause { id, lits, hints })
     }
 }
 

@@ -1,5 +1,5 @@
-use Rattle.ps_log.proofs.StepShapes.{on_none, no-end}
-use Rattle.ps_log.proofs.step_parts.StepParts.of.Goals as goal
+use Rattle.ps_log.proofs.ClauseShapes.{on_none, no-end}
+use Rattle.ps_log.proofs.clause_parts.ClauseParts.of.Goals as goal
 
 pub returns-in_err-hints-clause-none : goal.returns-in_err-hints-clause-none
 returns-in_err-hints-clause-none c =

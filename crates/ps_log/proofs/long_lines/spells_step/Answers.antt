@@ -1,9 +1,0 @@
-use Rattle.std.proofs.Common.{true≢false, sym}
-use Rattle.ps_log.proofs.LongTexts.{step-told, step-none}
-use Rattle.ps_log.proofs.long_lines.spells_step.Goals as goal
-
-pub returns-in-Some : goal.returns-in-Some
-returns-in-Some c = step-told c.args.text.now c.in-Some.rest.now c.spells_lits.result c.in-Some.ensures.found c.spells_lits.ensures
-
-pub returns-in-None : goal.returns-in-None
-returns-in-None c = (λ t. absurd (true≢false (sym t)), λ s. absurd (step-none c.args.text.now c.in-None.ensures.none s))
