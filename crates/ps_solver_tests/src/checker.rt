@@ -46,7 +46,7 @@ fn answer(
 ) -> Option<Result<(), StepRefused>> {
     let lits = lits(alloc, numbers)?;
     let hints = hints(alloc, ids)?;
-    Some(checker.take(&Step { id, lits, hints }))
+    Some(checker.take(&Step::Clause { id, lits, hints }))
 }
 
 fn is_taken(alloc: Global, checker: &mut Checker, id: u64, numbers: &[i32], ids: &[u64]) -> bool {

@@ -8,6 +8,8 @@ mod checker;
 #[cfg(test)]
 mod clauses;
 #[cfg(test)]
+mod cutting_planes;
+#[cfg(test)]
 mod cycle;
 #[cfg(test)]
 mod ends;
