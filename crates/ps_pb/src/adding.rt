@@ -59,16 +59,16 @@ fn rest(c: &Constraint) -> i128
     c.degree() - constant(c.terms().as_slice())
 }
 
-fn degree(left: &i128, right: &i128, turned: &i128) -> Option<i128>
+fn degree(left: &i128, right: &i128, turns: &i128) -> Option<i128>
     requires left { unsigned_abs left.now ≤ MOST_SIZE }
     requires right { unsigned_abs right.now ≤ MOST_SIZE }
-    requires low { pos 0 ≤ℤ turned.now }
-    requires high { turned.now ≤ℤ pos MOST_SIZE }
-    ensures value { IfSome result (λ z. z ≡ degree_of left.now right.now turned.now) }
-    ensures wide { IfNone result (MOST_SIZE < unsigned_abs (degree_of left.now right.now turned.now)) }
+    requires low { pos 0 ≤ℤ turns.now }
+    requires high { turns.now ≤ℤ pos MOST_SIZE }
+    ensures value { IfSome result (λ z. z ≡ degree_of left.now right.now turns.now) }
+    ensures wide { IfNone result (MOST_SIZE < unsigned_abs (degree_of left.now right.now turns.now)) }
 {
     match left.checked_add(*right) {
-        Some(sum) => sum.checked_add(*turned),
+        Some(sum) => sum.checked_add(*turns),
         None => None,
     }
 }
