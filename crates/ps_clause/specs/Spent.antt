@@ -1,30 +1,38 @@
--- Spent searches: lawful steps, as many as the limit, none of which says less than was known, after which one more is due.
-use Rattle.std.specs.Prelude.{ℕ, ◌+◌, ◌<◌, ◌^◌, ◌≡◌, ℤ, neg_ℤ, true}
-use Rattle.std.specs.Prelude.{Some, List, [], length, map, slice_get, unsigned_abs, All, Contains}
+-- Spent searches: lawful steps with as many clauses as the limit, none of which says less than what stands, after which one more
+-- is due.
+use Rattle.std.specs.Prelude.{ℕ, ◌+◌, ◌*◌, ◌<◌, ◌≤◌, ◌^◌, ◌≡◌, ◌≢◌, ℤ, neg_ℤ, Bool, true, false, ⊤}
+use Rattle.std.specs.Prelude.{Some, List, [], ◌∷◌, length, map, unsigned_abs, count_by, All, Contains}
 use Rattle.ps_pb.specs.Constraints.{Constraint, HasTerm}
-use Rattle.ps_pb.specs.Steps.{Known, lits_of, IsLawful, AreLawful, with_steps}
+use Rattle.ps_pb.specs.Steps.{Known, constraint_at, IsLawful, AreLawful, with_step, with_steps}
 use Rattle.ps_pb.specs.declared.step.Step.{Step}
 use Rattle.ps_pb.specs.declared.step.Step.TheVariants.{Clause, Delete, Add, Multiply, Divide, Saturate}
-use Rattle.ps_clause.specs.Forms.{Form, is_atom_variable, clause_at, first_known}
+use Rattle.ps_clause.specs.Forms.{Form, is_atom_variable, first_known}
 
 -- the literals of a constraint are all among these
 pub record IncludesTerms (lits : List ℤ) (c : Constraint) : Type 0 where
   pub at : (l : ℤ) (k : ℕ) → HasTerm l k c.terms → Contains lits l
 
--- these literals are all among those
-pub record IncludesLits (lits others : List ℤ) : Type 0 where
-  pub at : (l : ℤ) → Contains others l → Contains lits l
-
--- no step's literals include all literals of a clause of the form, or of an earlier step
-pub record AreNew (form : Form) (steps : List Step) : Type 0 where
-  pub clauses : (i : ℕ) (s : Step) (id : ℕ) (c : Constraint) → slice_get steps i ≡ Some s → clause_at form id ≡ Some c
-      → ¬ IncludesTerms (lits_of s) c
-  pub earlier : (j i : ℕ) (r s : Step) → j < i → slice_get steps j ≡ Some r → slice_get steps i ≡ Some s
-      → ¬ IncludesLits (lits_of s) (lits_of r)
-
--- how many constraints are known before the first step
+-- how many constraints are known before the first step; the goal is the last of them
 abbrev pub given_count : Form → ℕ
 given_count form = length form.clauses + 1
+
+-- literals include all literals of no constraint that stands, but maybe those of the goal
+pub record IncludesNone (form : Form) (known : Known) (lits : List ℤ) : Type 0 where
+  pub at : (id : ℕ) (c : Constraint) → constraint_at known id ≡ Some c → id ≢ given_count form → ¬ IncludesTerms lits c
+
+-- a step that is a clause includes no clause of the form, and no step's clause that stands
+abbrev pub IsNew : Form → Known → Step → Type 0
+IsNew form known (Clause id lits hints) = IncludesNone form known lits
+IsNew form known (Delete id) = ⊤
+IsNew form known (Add id left right) = ⊤
+IsNew form known (Multiply id of by) = ⊤
+IsNew form known (Divide id of by) = ⊤
+IsNew form known (Saturate id of) = ⊤
+
+-- each step is new after those before it
+abbrev pub AreNew : Form → Known → List Step → Type 0
+AreNew form known [] = ⊤
+AreNew form known (s ∷ ss) = IsNew form known s × AreNew form (with_step known s) ss
 
 -- one more step is due: no list of hints makes a clause without literals lawful, and for some literals of atoms the clause of
 -- their opposites is lawful with some hints
@@ -36,20 +44,46 @@ pub record IsDue (form : Form) (known : Known) : Type 0 where
   pub hints : List ℕ
   pub lawful : IsLawful form.variables (given_count form) known (Clause id (map neg_ℤ chosen) hints)
 
--- a step is a clause that has a literal
-abbrev pub HasLiteral : Step → Type 0
-HasLiteral (Clause id lits hints) = 0 < length lits
-HasLiteral (Delete id) = ⊥
-HasLiteral (Add id left right) = ⊥
-HasLiteral (Multiply id of by) = ⊥
-HasLiteral (Divide id of by) = ⊥
-HasLiteral (Saturate id of) = ⊥
+-- a step of a search is a clause that has a literal, or a deletion
+abbrev pub IsOfSearch : Step → Type 0
+IsOfSearch (Clause id lits hints) = 0 < length lits
+IsOfSearch (Delete id) = ⊤
+IsOfSearch (Add id left right) = ⊥
+IsOfSearch (Multiply id of by) = ⊥
+IsOfSearch (Divide id of by) = ⊥
+IsOfSearch (Saturate id of) = ⊥
 
--- a spent search for a goal over a form
+-- whether a step is a clause
+abbrev pub is_clause : Step → Bool
+is_clause (Clause id lits hints) = true
+is_clause (Delete id) = false
+is_clause (Add id left right) = false
+is_clause (Multiply id of by) = false
+is_clause (Divide id of by) = false
+is_clause (Saturate id of) = false
+
+-- whether a step deletes a clause
+abbrev pub is_deletion : Step → Bool
+is_deletion (Clause id lits hints) = false
+is_deletion (Delete id) = true
+is_deletion (Add id left right) = false
+is_deletion (Multiply id of by) = false
+is_deletion (Divide id of by) = false
+is_deletion (Saturate id of) = false
+
+-- how many of some steps are clauses, and how many are deletions
+abbrev pub clause_count : List Step → ℕ
+clause_count steps = count_by is_clause steps
+
+abbrev pub deletion_count : List Step → ℕ
+deletion_count steps = count_by is_deletion steps
+
+-- a spent search for a goal over a form; at most half of its clauses are deleted
 pub record IsSpentSearch (form : Form) (goal : Constraint) (limit : ℕ) (steps : List Step) : Type 0 where
   pub lawful : AreLawful form.variables (first_known form goal) steps
-  pub count : length steps ≡ limit
-  pub literals : All HasLiteral steps
+  pub kinds : All IsOfSearch steps
+  pub count : clause_count steps ≡ limit
+  pub half : 2 * deletion_count steps ≤ limit
   pub few : limit < 2 ^ form.variables
-  pub new : AreNew form steps
+  pub new : AreNew form (first_known form goal) steps
   pub due : IsDue form (with_steps (first_known form goal) steps)
