@@ -11,9 +11,10 @@ pub(crate) fn one_count(text: &[u8]) -> Option<u128>
     ensures found { IfSome result (λ n. SpellsOne text.now n) }
     ensures none { IfNone result (LacksOne text.now) }
 {
-    match split_word(text) {
-        (word, None) => size(word),
-        _ => None,
+    let (word, after) = split_word(text);
+    match after {
+        Some(_more) => None,
+        None => size(word),
     }
 }
 
@@ -42,11 +43,12 @@ fn first_count(text: &[u8]) -> Option<(u128, &[u8])>
     ensures found { IfSome result (λ r. StartsWithCount text.now r.0 r.1.now) }
     ensures none { IfNone result (LacksFirstCount text.now) }
 {
-    match split_word(text) {
-        (word, Some(rest)) => {
+    let (word, after) = split_word(text);
+    match after {
+        Some(rest) => {
             let count = size(word)?;
             Some((count, rest))
         }
-        _ => None,
+        None => None,
     }
 }

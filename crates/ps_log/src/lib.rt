@@ -29,7 +29,7 @@ pub use goal_reader::read_goal;
 pub use held::HeldLog;
 pub use laws::{decimals_are_spelled, last_lines_are_told, lines_are_read, texts_are_lines};
 pub use limits::{
-    MOST_CONFLICTS, MOST_HINTS, MOST_LITS, is_goal_within, is_step_within,
+    MOST_CONFLICTS, MOST_HINTS, MOST_LITS, is_factor, is_goal_within, is_step_within,
     limits_have_these_numbers,
 };
 pub use line_error::{GoalError, LineError, StepError};

@@ -61,7 +61,7 @@ fn is_clause_within(id: &u64, lits: &[Lit], hints: &[u64]) -> bool
 }
 
 /// Whether a number is a factor: from 1 to `MOST_SIZE`.
-pub(crate) fn is_factor(by: &i128) -> bool
+pub fn is_factor(by: &i128) -> bool
     ensures { IsTrue result ↔ IsFactor by.now }
 {
     1 <= *by && by.unsigned_abs() <= MOST_SIZE

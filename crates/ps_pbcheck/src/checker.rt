@@ -1,6 +1,6 @@
 //! The checker of steps.
 ghost use Rattle.std.specs.Prelude.{◌≡◌, IfOk, OnOk, OnErr, true};
-ghost use Rattle.ps_pb.specs.Steps.{Entails, IsUnmet};
+ghost use Rattle.ps_pb.specs.Steps.{Entails, IsUnmet, number_of};
 ghost use Rattle.ps_pbcheck.specs.Checked.{first_checked, after_step, refusal_by, AnswersStep};
 
 use crate::held::Held;
@@ -64,6 +64,21 @@ impl Checker {
         let refuted = apply(self.alloc, &self.unset, &mut self.known, s)?;
         self.refuted = refuted;
         Ok(())
+    }
+
+    /// The number by which a step is told that comes next: its id, and that of a deletion is the
+    /// next id.
+    pub fn number_of(&self, s: &Step) -> u64
+        ensures { result ≡ number_of self.now.known s.now }
+    {
+        match s {
+            Step::Clause { id, .. } => *id,
+            Step::Delete { .. } => self.known.len() as u64 + 1,
+            Step::Add { id, .. } => *id,
+            Step::Multiply { id, .. } => *id,
+            Step::Divide { id, .. } => *id,
+            Step::Saturate { id, .. } => *id,
+        }
     }
 
     /// Whether the last step taken added a constraint whose coefficients sum to less than its
