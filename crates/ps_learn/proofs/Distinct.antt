@@ -1,17 +1,16 @@
--- The terms of each known constraint are of different variables.
+-- The terms of each constraint that stands are of different variables.
 use Rattle.std.proofs.Common.{◌≡◌, ◌≢◌, ℕ, zero, suc, ◌<◌, ◌≤◌, ℤ, pos, negsuc, Some, List, [], ◌∷◌, ◌++◌, arith, sym, ◌∙◌, subst, ◌⊎◌, inl, inr}
-use Rattle.std.specs.Prelude.{slice_get}
 use Rattle.std.proofs.lemmas.List.{append-nil}
-use Rattle.std.proofs.lemmas.Option.{slice_get_within, get_or_from_slice_get}
+use Rattle.std.proofs.lemmas.Bool.{cases_eq}
 use Rattle.ps_pb.specs.Assignments.{place}
 use Rattle.ps_pb.specs.Constraints.{Constraint}
 use Rattle.ps_pb.specs.Weights.{Weighted, term_at, terms_below, last_variable, coefficient_at, constraint_of, weighted, IsNormal}
-use Rattle.ps_pb.specs.Steps.{Known, constraint_at, Step, added, with_step, with_steps}
+use Rattle.ps_pb.specs.Steps.{Known, constraint_at}
 use Rattle.ps_pb.proofs.Setting.{HasNone, AreDistinct, rising-distinct}
-use Rattle.ps_pb.proofs.Lawful.{constraint_at-more}
-use Rattle.ps_pb.proofs.Ids.{at-id, at-zero}
-use Rattle.ps_clause.specs.Forms.{Form, IsClause, HasClauses, first_known}
+use Rattle.ps_clause.specs.Forms.{Form}
+use Rattle.ps_clause.specs.Spent.{given_count}
 use Rattle.ps_learn.proofs.Due.{AreAllDistinct}
+use Rattle.ps_learn.proofs.News.{AreClauses}
 
 none_push : (p q : ℕ) (ts : List (ℤ × ℕ)) (u : ℤ × ℕ) → HasNone p ts → place u.0 ≢ p → HasNone p (ts ++ u ∷ [])
 none_push p q [] u h n = (n, tt)
@@ -46,41 +45,12 @@ pub constraint-distinct : (ts : Weighted) (least : ℤ) → AreDistinct (constra
 unfolding constraint_of
 constraint-distinct ts least = distinct_below (last_variable ts) (coefficient_at ts)
 
--- what is known first
-of_first : (cs : List Constraint) (g c : Constraint) (i : ℕ) → slice_get (cs ++ g ∷ []) i ≡ Some c → (slice_get cs i ≡ Some c) ⊎ (g ≡ c)
-of_first [] g c zero h = inr cc
-of_first [] g c (suc i) h = absurd (cc)
-of_first (x ∷ cs) g c zero h = inl h
-of_first (x ∷ cs) g c (suc i) h = of_first cs g c i h
-
-pub form-clause : (f : Form) (i : ℕ) (c : Constraint) → HasClauses f → slice_get f.clauses i ≡ Some c → IsClause f.variables c
-form-clause f i c h q = rw (get_or_from_slice_get f.clauses i c c q) at (h i c (slice_get_within f.clauses i c q))
-
-clause_distinct : (f : Form) (c : Constraint) → IsClause f.variables c → AreDistinct c.terms
-clause_distinct f c h = rw h.is (constraint-distinct _ _)
-
-first_distinct : (f : Form) (goal : Constraint) (id : ℕ) (c : Constraint) → HasClauses f → IsNormal (weighted goal.terms) goal.degree → constraint_at (first_known f goal) id ≡ Some c → AreDistinct c.terms
-first_distinct f goal zero c h n q = absurd (at-zero (f.clauses ++ goal ∷ []) c q)
-first_distinct f goal (suc i) c h n q = elim (of_first f.clauses goal c i (sym (at-id (f.clauses ++ goal ∷ []) i) ∙ q)) [
-  | inl old ↦ clause_distinct f c (form-clause f i c h old)
-  | inr own ↦ rw (← own) (rising-distinct 0 goal.terms n.rising)
-]
-
--- and after steps
-of_steps : (known : Known) (ss : List Step) (id : ℕ) (c : Constraint) → constraint_at (with_steps known ss) id ≡ Some c → (constraint_at known id ≡ Some c) ⊎ ((s : Step) × (added s ≡ c))
-of_steps known [] id c h = inl h
-of_steps known (s ∷ ss) id c h = elim (of_steps (with_step known s) ss id c h) [
-  | inl old ↦ elim (constraint_at-more known (Some (added s)) id c old) [
-    | inl older ↦ inl older
-    | inr new ↦ inr (s, cc new)
-  ]
-  | inr r ↦ inr r
-]
-
-pub all-distinct : (f : Form) (goal : Constraint) (ss : List Step) → HasClauses f → IsNormal (weighted goal.terms) goal.degree → AreAllDistinct (with_steps (first_known f goal) ss)
-all-distinct f goal ss h n = record {
-  at = λ id c q. elim (of_steps (first_known f goal) ss id c q) [
-    | inl old ↦ first_distinct f goal id c h n old
-    | inr new ↦ subst (λ k. AreDistinct k.terms) new.1 (constraint-distinct _ _)
+pub all-distinct : (f : Form) (goal : Constraint) (known : Known) → AreClauses f known → constraint_at known (given_count f) ≡ Some goal → IsNormal (weighted goal.terms) goal.degree → AreAllDistinct known
+all-distinct f goal known h at n = record {
+  at = λ id c q. elim (cases_eq id (given_count f)) [
+    | inl e ↦ (let there : constraint_at known (given_count f) ≡ Some c = subst (λ n. constraint_at known n ≡ Some c) e q in
+        let own : goal ≡ c = cc (at, there) in
+        subst (λ (k : Constraint). AreDistinct k.terms) own (rising-distinct 0 goal.terms n.rising))
+    | inr ne ↦ (let k = h.at id c q ne in subst (λ (k : Constraint). AreDistinct k.terms) (sym k.is) (constraint-distinct _ _))
   ];
 }

@@ -8,7 +8,7 @@ use Rattle.std.proofs.lemmas.List.Sums.{fold-append}
 use Rattle.std.proofs.lemmas.List.Elements.{All-nil, All-push}
 use Rattle.ps_pb.specs.Assignments.{Assignment, place, value_of, with_true, with_false, is_unset, all_unset, Includes}
 use Rattle.ps_pb.specs.Constraints.{Constraint, Covers, Forces, slack, is_violated, some_forced, with_forced}
-use Rattle.ps_pb.specs.Steps.{Known, constraint_at, next_id, Step, lits_of, Open, Conflict, at_constraint, after_hint, after_hints, and_false}
+use Rattle.ps_pb.specs.Steps.{Known, constraint_at, next_id, Open, Conflict, at_constraint, after_hint, after_hints, and_false}
 use Rattle.ps_pb.proofs.Values.{includes-refl, includes-trans, with_true-includes}
 use Rattle.ps_pb.proofs.Forcing.{with_forced-includes}
 use Rattle.ps_pb.proofs.Setting.{AreDistinct, length-forced, length-with_true, value-true, includes-one, includes-both, unset-below, unset-both, place-opposite, opposite-false}
@@ -20,7 +20,8 @@ use Rattle.ps_clause.specs.Forms.{Form, is_atom_variable}
 use Rattle.ps_learn.specs.Trails.{TrailEntry, values_of, decisions, IsReason, AreFresh, AreReasons, IsConflict}
 use Rattle.ps_learn.proofs.Entries.{values-more, length-values}
 use Rattle.ps_learn.proofs.Following.{learned-lawful}
-use Rattle.ps_clause.specs.Spent.{IsDue}
+use Rattle.ps_clause.specs.Spent.{given_count, IsDue}
+use Rattle.ps_learn.specs.Lessons.{Lesson}
 use Rattle.ps_learn.specs.Resting.{AreRested, AreOfAtoms}
 use Rattle.ps_learn.proofs.Staying.{includes-covers, rest-lawless}
 use Rattle.ps_learn.proofs.Opening.{entry-at, opens}
@@ -178,10 +179,6 @@ ends_all v known es start id w (inr r) =
     let bad : is_violated w.constraint r.assignment ≡ true = covers-violated w.constraint (values_of v es) r.assignment (includes-covers w.constraint (values_of v es) r.assignment inc) w.violated in
     (r.hints ++ id ∷ [], more_hint known start r.assignment r.hints id w.constraint r.going w.known_at ∙ rw bad refl)
 
-no_lits : (P : ℤ → Type 0) (ls : List ℤ) → (length ls == 0) ≡ true → All P ls
-no_lits P [] h = All-nil P
-no_lits P (l ∷ ls) h = absurd (let n : suc (length ls) ≡ 0 = grind (arith, h) in omega (arith, n))
-
 unset_in : (b : Assignment) (v : ℕ) → Includes b (all_unset v)
 unset_in b v = record { at = λ l x e. absurd (cc (value-unset v l, e)) }
 
@@ -193,12 +190,12 @@ is-due form known es id f reasons rested atoms distinct above w =
     let c = chosen_to form v es (length es) f atoms (omega arith) in
     let own : (j : ℕ) (e : TrailEntry) → slice_get es j ≡ Some e → e.reason ≡ None → value_of c.assignment e.lit ≡ Some true = λ j e q n. c.true_at j e (slice_get_within es j e q) q n in
     let end = ends_all v known es c.assignment id w (reached_to v known es c.assignment (length es) f distinct reasons own (reached-none v known es c.assignment c.len (unset_in c.assignment v)) (omega arith)) in
-    let s : Step = record { id = next_id known; lits = map neg_ℤ c.lits; hints = end.0 } in
+    let x : Lesson = record { id = next_id known; lits = map neg_ℤ c.lits; hints = end.0 } in
     record {
-      unrefuted = λ x non lawful. rest-lawless v known (values_of v (take o.place es)) x (rested.at o.place o.entry o.there o.chosen) (no_lits (λ l. value_of (values_of v (take o.place es)) l ≡ Some false) (lits_of x) non) lawful;
+      unrefuted = λ i hints lawful. rest-lawless v known (values_of v (take o.place es)) i [] hints (rested.at o.place o.entry o.there o.chosen) (All-nil (λ l. value_of (values_of v (take o.place es)) l ≡ Some false)) (λ given. lawful);
       chosen = c.lits;
       atoms = c.atoms;
-      step = s;
-      opposites = refl;
-      lawful = learned-lawful v known s c.assignment refl c.lits_false end.1;
+      id = next_id known;
+      hints = end.0;
+      lawful = learned-lawful v known x c.assignment refl c.lits_false end.1 (given_count form);
     }

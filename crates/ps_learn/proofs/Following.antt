@@ -8,7 +8,8 @@ use Rattle.std.proofs.lemmas.List.Sums.{fold-append}
 use Rattle.std.proofs.lemmas.Bool.{cases_eq, eq-eqb}
 use Rattle.ps_pb.specs.Assignments.{Assignment, place, value_of, with_true, is_false, all_unset, Includes}
 use Rattle.ps_pb.specs.Constraints.{Constraint, Forces, slack, is_violated, some_forced, with_forced}
-use Rattle.ps_pb.specs.Steps.{Known, constraint_at, next_id, Step, Open, Conflict, at_constraint, after_hint, after_hints, and_false, all_false, refusal_of, from_start, end_of}
+use Rattle.ps_learn.specs.Lessons.{Lesson, IsLawfulLesson}
+use Rattle.ps_pb.specs.Steps.{Known, constraint_at, next_id, Open, Conflict, at_constraint, after_hint, after_hints, and_false, all_false, from_start, end_of}
 use Rattle.ps_learn.specs.Trails.{TrailEntry, values_of, AreFresh}
 use Rattle.ps_learn.specs.Causes.{Marks, is_marked, AreCovered}
 use Rattle.ps_pb.proofs.Values.{includes-refl, includes-trans}
@@ -127,7 +128,7 @@ pub followed-end : (v : ℕ) (known : Known) (es : List TrailEntry) (marks : Mar
 followed-end v known es marks start i hints a id c f h k x covered =
     followed-violated known start a hints id c f.going k (covers-violated c (values_of v es) a (covered-covers c (values_of v es) a marks covered (λ l y e m. f.includes l y (rw (take_all i es h) e) m)) x)
 
--- the step is lawful
-pub learned-lawful : (v : ℕ) (known : Known) (s : Step) (a : Assignment) → s.id ≡ next_id known → fold and_false (Some (all_unset v)) s.lits ≡ Some a → after_hints known (Open a) s.hints ≡ Conflict → refusal_of v known s ≡ None
+-- the clause is lawful
+pub learned-lawful : (v : ℕ) (known : Known) (x : Lesson) (a : Assignment) → x.id ≡ next_id known → fold and_false (Some (all_unset v)) x.lits ≡ Some a → after_hints known (Open a) x.hints ≡ Conflict → IsLawfulLesson v known x
 unfolding all_false
-learned-lawful v known s a i l h = rw (eq-eqb s.id (next_id known) i) (ap (from_start known s.hints) l ∙ ap end_of h)
+learned-lawful v known x a i l h = λ given. rw (eq-eqb x.id (next_id known) i) (ap (from_start known x.hints) l ∙ ap end_of h)

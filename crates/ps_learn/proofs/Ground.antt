@@ -1,9 +1,8 @@
 -- What is learned at level 0.
 use Rattle.std.proofs.Common.{◌≡◌, ℕ, zero, suc, ◌≤◌, ℤ, true, Option, Some, None, List, [], ◌∷◌, length, arith, refl, inl, inr}
-use Rattle.std.specs.Prelude.{slice_get, unsigned_abs, ◌==◌, All}
+use Rattle.std.specs.Prelude.{slice_get, unsigned_abs, ◌==◌}
 use Rattle.std.proofs.lemmas.Bool.{cases_Bool}
 use Rattle.std.proofs.lemmas.List.Elements.{All-head}
-use Rattle.ps_pb.specs.Steps.{Step, lits_of, is_contradiction}
 use Rattle.ps_learn.specs.Trails.{TrailEntry, Trail, level, decisions, entry_of, AreLevels}
 use Rattle.ps_learn.specs.Levels.{level_or_zero, level_at, IsAsserting}
 use Rattle.ps_learn.proofs.TrailDistinct.{level-most}
@@ -24,12 +23,8 @@ level_under es l h = by_entry (entry_of (unsigned_abs l) es) refl
     by_entry None e = omega arith
     by_entry (Some d) e = let r = place_of (unsigned_abs l) es d e in level-most es r.0 d h r.1
 
--- no literal is of a level above 0 where the trail is at level 0
-none_above : (t : Trail) (ls : List ℤ) → AreLevels t.entries → level t ≡ 0 → All (λ l. 1 ≤ level_at t.entries l) ls → (length ls == 0) ≡ true
-none_above t [] h ground above = refl
-none_above t (l ∷ ls) h ground above =
-    absurd (omega (arith, All-head (λ l. 1 ≤ level_at t.entries l) l ls above, level_under t.entries l h, ground))
-
 -- a clause that is asserted at level 0 has no literals
-pub ground-contradiction : (t : Trail) (x : Step) (next : ℕ) → AreLevels t.entries → IsAsserting t (lits_of x) next → level t ≡ 0 → is_contradiction x ≡ true
-ground-contradiction t x next h asserting ground = none_above t (lits_of x) h ground asserting.above
+pub ground-empty : (t : Trail) (ls : List ℤ) (next : ℕ) → AreLevels t.entries → IsAsserting t ls next → level t ≡ 0 → ls ≡ []
+ground-empty t [] next h asserting ground = refl
+ground-empty t (l ∷ ls) next h asserting ground =
+    absurd (omega (arith, All-head (λ l. 1 ≤ level_at t.entries l) l ls asserting.above, level_under t.entries l h, ground))

@@ -1,21 +1,34 @@
 -- What hints alone refute is refuted after any further steps.
-use Rattle.std.proofs.Common.{◌≡◌, ℕ, ◌≤◌, ◌^◌, Option, Some, None, List, [], ◌∷◌, arith, refl, sym, ap, ◌∙◌}
+use Rattle.std.proofs.Common.{◌≡◌, ℕ, ◌≤◌, ◌^◌, Option, Some, None, List, [], ◌∷◌, length, get_or, zero, suc, arith, refl, sym, ap, ◌∙◌}
 use Rattle.ps_pb.specs.Assignments.{Assignment}
 use Rattle.ps_pb.specs.Constraints.{Constraint}
 use Rattle.ps_pb.specs.declared.refused.StepRefused.{StepRefused}
 use Rattle.ps_pb.specs.declared.refused.StepRefused.TheVariants.{UnknownHint, HintIdle}
-use Rattle.ps_pb.specs.Steps.{Known, constraint_at, next_id, Step, lits_of, hints_of, Propagation, Open, Conflict, Refused, at_constraint, after_conflict, after_hint, after_hints, all_false, with_steps}
+use Rattle.ps_pb.specs.Steps.{Known, constraint_at, next_id, Propagation, Open, Conflict, Refused, at_constraint, after_conflict, after_hint, after_hints, all_false, with_steps}
+use Rattle.ps_pb.specs.declared.step.Step.{Step}
 use Rattle.ps_pb.proofs.Ids.{kept-all}
 use Rattle.ps_pb.proofs.Places.{after_hints-refused}
 use Rattle.ps_pb.proofs.Short.{lawful-start}
 use Rattle.ps_learn.proofs.Following.{learned-lawful}
 use Rattle.ps_clause.specs.Forms.{Form, first_known}
-use Rattle.ps_clause.specs.Spent.{IsSpentSearch}
+use Rattle.ps_clause.specs.Spent.{given_count, IsSpentSearch}
+use Rattle.ps_learn.specs.Lessons.{Lesson}
 use Rattle.ps_learn.specs.Hints.{AreRefutedByHints}
 
 -- each known constraint stays known, under its id
 pub record AreKept (known later : Known) : Type 0 where
   pub at : (id : ℕ) (c : Constraint) → constraint_at known id ≡ Some c → constraint_at later id ≡ Some c
+
+place_most : (known : Known) (i : ℕ) (c : Constraint) → get_or known i None ≡ Some c → suc i ≤ length known
+place_most [] i c h = absurd (cc)
+place_most (k ∷ ks) zero c h = omega arith
+place_most (k ∷ ks) (suc i) c h = omega (arith, place_most ks i c h)
+
+-- what is known is known under an id up to their number
+pub at-most : (known : Known) (id : ℕ) (c : Constraint) → constraint_at known id ≡ Some c → id ≤ length known
+unfolding constraint_at
+at-most known zero c h = omega arith
+at-most known (suc i) c h = place_most known i c h
 
 not_refused : (known : Known) (why : StepRefused) (hs : List ℕ) (x : Propagation) → x ≡ Refused why → after_hints known x hs ≡ Conflict → ⊥
 not_refused known why hs x e h =
@@ -60,11 +73,11 @@ unfolding all_false
 spent-unrefuted f goal limit steps h spent =
     let first = first_known f goal in
     let later = with_steps first steps in
-    let start = lawful-start f.variables first h.step h.lawful in
-    let s : Step = record { id = next_id later; lits = lits_of h.step; hints = hints_of h.step } in
-    let kept : AreKept first later = record { at = λ id c e. kept-all first steps id c e } in
-    let meets : after_hints later (Open start.0) (hints_of h.step) ≡ Conflict = hints-kept first later (Open start.0) (hints_of h.step) kept start.2 in
-    spent.due.unrefuted s h.contradiction (learned-lawful f.variables later s start.0 refl start.1 meets)
+    let start = lawful-start f.variables 0 first h.id [] h.hints (h.lawful 0) in
+    let x : Lesson = record { id = next_id later; lits = []; hints = h.hints } in
+    let kept : AreKept first later = record { at = λ id c e. kept-all f.variables (length first) first steps id c spent.lawful (at-most first id c e) e } in
+    let meets : after_hints later (Open start.0) h.hints ≡ Conflict = hints-kept first later (Open start.0) h.hints kept start.2 in
+    spent.due.unrefuted (next_id later) h.hints (learned-lawful f.variables later x start.0 refl start.1 meets (given_count f))
 
 -- a spent search has learned fewer clauses than there are assignments
 pub spent-few : (f : Form) (goal : Constraint) (limit : ℕ) (steps : List Step) → 2 ^ f.variables ≤ limit → IsSpentSearch f goal limit steps → ⊥

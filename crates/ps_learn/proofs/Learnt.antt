@@ -8,12 +8,13 @@ use Rattle.std.proofs.Math.Nat.{max-eq_right, max-eq_left}
 use Rattle.ps_pb.specs.Assignments.{Assignment, place, is_positive, literal_at, value_of, is_false, is_unset, AreDifferent}
 use Rattle.ps_pb.specs.Constraints.{Constraint, is_open, HasTerm}
 use Rattle.ps_pb.specs.Weights.{clause_of}
-use Rattle.ps_pb.specs.Steps.{Known, constraint_at, Step, lits_of, IsLawful, added, is_contradiction}
+use Rattle.ps_pb.specs.Steps.{Known, constraint_at}
 use Rattle.ps_pb.proofs.Clauses.{different-differ, open-reads, place_of}
 use Rattle.ps_pb.proofs.Lawful.{constraint_at-more}
 use Rattle.ps_pb.proofs.Short.{lawful-different}
 use Rattle.ps_clause.specs.Decided.{IsIdle}
 use Rattle.ps_learn.specs.Trails.{TrailEntry, Trail, values, values_of, level, IsLit, AreFresh, AreLevels}
+use Rattle.ps_learn.specs.Lessons.{Lesson, step_of, IsLawfulLesson}
 use Rattle.ps_learn.specs.Levels.{level_at, greatest_level, IsAsserting}
 use Rattle.ps_learn.proofs.Entries.{get-taken}
 use Rattle.ps_learn.proofs.TrailDistinct.{level-most}
@@ -27,15 +28,15 @@ use Rattle.ps_learn.proofs.Terms.{contains-here, contains-cases, contains-none, 
 use Rattle.ps_learn.proofs.Counts.{passes, pass-two, pass-most, pass-some, two-idle, none-violated, one-forces, forces-busy}
 
 -- a clause that was learned from a conflict
-pub record Learns (t : Trail) (known : Known) (x : Step) (next : ℕ) : Type 0 where
+pub record Learns (t : Trail) (known : Known) (x : Lesson) (next : ℕ) : Type 0 where
   pub fresh : AreFresh t.variables t.entries
   pub levels : AreLevels t.entries
   pub rested : AreRested t.variables known t.entries
-  pub lawful : IsLawful t.variables known x
-  pub asserting : IsAsserting t (lits_of x) next
-  pub falsified : AreFalseIn (values t) (lits_of x)
-  pub literals : All (IsLit t.variables) (lits_of x)
-  pub some : is_contradiction x ≡ false
+  pub lawful : IsLawfulLesson t.variables known x
+  pub asserting : IsAsserting t x.lits next
+  pub falsified : AreFalseIn (values t) x.lits
+  pub literals : All (IsLit t.variables) x.lits
+  pub some : (length x.lits == 0) ≡ false
 
 abbrev IsFalseIn : Assignment → ℤ → Type 0
 IsFalseIn b l = value_of b l ≡ Some false
@@ -48,26 +49,26 @@ first_of : (ls : List ℤ) → (length ls == 0) ≡ false → (l : ℤ) × Conta
 first_of [] h = absurd (cc)
 first_of (l ∷ ls) h = (l, contains-here l ls)
 
-pub lit_of : (t : Trail) (known : Known) (x : Step) (next : ℕ) (l : ℤ) → Learns t known x next → Contains (lits_of x) l → IsLit t.variables l
-lit_of t known x next l h c = All-contains (IsLit t.variables) (lits_of x) l h.literals c
+pub lit_of : (t : Trail) (known : Known) (x : Lesson) (next : ℕ) (l : ℤ) → Learns t known x next → Contains x.lits l → IsLit t.variables l
+lit_of t known x next l h c = All-contains (IsLit t.variables) x.lits l h.literals c
 
-false_of : (t : Trail) (known : Known) (x : Step) (next : ℕ) (l : ℤ) → Learns t known x next → Contains (lits_of x) l → value_of (values t) l ≡ Some false
-false_of t known x next l h c = All-contains (IsFalseIn (values t)) (lits_of x) l h.falsified c
+false_of : (t : Trail) (known : Known) (x : Lesson) (next : ℕ) (l : ℤ) → Learns t known x next → Contains x.lits l → value_of (values t) l ≡ Some false
+false_of t known x next l h c = All-contains (IsFalseIn (values t)) x.lits l h.falsified c
 
-set_of : (t : Trail) (known : Known) (x : Step) (next : ℕ) (l : ℤ) → Learns t known x next → Contains (lits_of x) l → SetAt t.entries l
+set_of : (t : Trail) (known : Known) (x : Lesson) (next : ℕ) (l : ℤ) → Learns t known x next → Contains x.lits l → SetAt t.entries l
 set_of t known x next l h c = set-at t.variables t.entries l false (false_of t known x next l h c)
 
 -- no literal is above the trail's level
-most_of : (t : Trail) (known : Known) (x : Step) (next : ℕ) (l : ℤ) → Learns t known x next → Contains (lits_of x) l → level_at t.entries l ≤ level t
+most_of : (t : Trail) (known : Known) (x : Lesson) (next : ℕ) (l : ℤ) → Learns t known x next → Contains x.lits l → level_at t.entries l ≤ level t
 most_of t known x next l h c =
     let s = set_of t known x next l h c in
     omega (arith, set-level t.variables t.entries l h.fresh (lit_of t known x next l h c).0 s, level-most t.entries s.at s.entry h.levels s.there)
 
 -- the trail is above level 0
-pub above-ground : (t : Trail) (known : Known) (x : Step) (next : ℕ) → Learns t known x next → 1 ≤ level t
+pub above-ground : (t : Trail) (known : Known) (x : Lesson) (next : ℕ) → Learns t known x next → 1 ≤ level t
 above-ground t known x next h =
-    let l = first_of (lits_of x) h.some in
-    omega (arith, All-contains (λ l. 1 ≤ level_at t.entries l) (lits_of x) l.0 h.asserting.above l.1, most_of t known x next l.0 h l.1)
+    let l = first_of x.lits h.some in
+    omega (arith, All-contains (λ l. 1 ≤ level_at t.entries l) x.lits l.0 h.asserting.above l.1, most_of t known x next l.0 h l.1)
 
 one_less : (k : ℕ) → 1 ≤ k → (n : ℕ) × (k ≡ suc n)
 one_less zero h = absurd (omega (arith, h))
@@ -90,17 +91,17 @@ all_lits : (ls : List ℤ) (P : ℤ → Type 0) → ((l : ℤ) → Contains ls l
 all_lits ls P h = All-weaker (Contains ls) P h ls (All-contains_itself ls)
 
 -- where all of them are of lower levels they are false where the trail's level was opened, which is at rest
-not_all : (t : Trail) (known : Known) (x : Step) (next : ℕ) → Learns t known x next → ((l : ℤ) → Contains (lits_of x) l → level_at t.entries l < level t) → ⊥
+not_all : (t : Trail) (known : Known) (x : Lesson) (next : ℕ) → Learns t known x next → ((l : ℤ) → Contains x.lits l → level_at t.entries l < level t) → ⊥
 not_all t known x next h low =
     let o = top-opening t (above-ground t known x next h) in
     let p = o.2 in
     let lvl : p.entry.level ≡ level t = omega (arith, opening-level t.entries p.place p.entry h.levels p.there p.chosen, p.below, o.1) in
     let rest = h.rested.at p.place p.entry p.there p.chosen in
-    rest-lawless t.variables known (before t p.place) x rest
-    (all_lits (lits_of x) (IsFalseIn (before t p.place)) (λ l c. low-value t.variables t.entries p.place p.entry l false h.fresh h.levels p.there (lit_of t known x next l h c).0 (let lo = low l c in omega (arith, lo, lvl)) (false_of t known x next l h c)))
+    rest-lawless t.variables known (before t p.place) x.id x.lits x.hints rest
+    (all_lits x.lits (IsFalseIn (before t p.place)) (λ l c. low-value t.variables t.entries p.place p.entry l false h.fresh h.levels p.there (lit_of t known x next l h c).0 (let lo = low l c in omega (arith, lo, lvl)) (false_of t known x next l h c)))
     h.lawful
 
-by_last : (t : Trail) (known : Known) (x : Step) (next : ℕ) (others last : List ℤ) → Learns t known x next → lits_of x ≡ others ++ last → length last ≤ 1 → All (λ l. level_at t.entries l < level t) others → next ≡ greatest_level t.entries others → IsSharp t (lits_of x) next
+by_last : (t : Trail) (known : Known) (x : Lesson) (next : ℕ) (others last : List ℤ) → Learns t known x next → x.lits ≡ others ++ last → length last ≤ 1 → All (λ l. level_at t.entries l < level t) others → next ≡ greatest_level t.entries others → IsSharp t x.lits next
 by_last t known x next others [] h split one below is = absurd (not_all t known x next h (λ l c. All-contains (λ l. level_at t.entries l < level t) others l below (subst (λ ls. Contains ls l) (split ∙ append-nil others) c)))
 by_last t known x next others (l ∷ m ∷ ls) h split one below is = absurd (omega (arith, one))
 by_last t known x next others (l ∷ []) h split one below is = elim (cases_lt (level_at t.entries l) (level t)) [
@@ -108,11 +109,11 @@ by_last t known x next others (l ∷ []) h split one below is = elim (cases_lt (
     | inl old ↦ All-contains (λ l. level_at t.entries l < level t) others m below old
     | inr e ↦ subst (λ k. level_at t.entries k < level t) e lt
   ]))
-  | inr ge ↦ (let here : Contains (lits_of x) l = subst (λ ls. Contains ls l) (sym split) (Contains-push others l) in
+  | inr ge ↦ (let here : Contains x.lits l = subst (λ ls. Contains ls l) (sym split) (Contains-push others l) in
       record { others = others; last = l; split = split; below = below; top = omega (arith, ge, most_of t known x next l h here); next_is = is })
 ]
 
-pub sharp : (t : Trail) (known : Known) (x : Step) (next : ℕ) → Learns t known x next → IsSharp t (lits_of x) next
+pub sharp : (t : Trail) (known : Known) (x : Lesson) (next : ℕ) → Learns t known x next → IsSharp t x.lits next
 sharp t known x next h = by_last t known x next h.asserting.others h.asserting.last h h.asserting.split h.asserting.one h.asserting.below h.asserting.next_is
 
 pub last_in : (t : Trail) (lits : List ℤ) (next : ℕ) (s : IsSharp t lits next) → Contains lits s.last
@@ -125,18 +126,18 @@ pub lit_cases : (t : Trail) (lits : List ℤ) (next : ℕ) (s : IsSharp t lits n
 lit_cases t lits next s l c = Contains-push_cases s.others s.last l (subst (λ ls. Contains ls l) s.split c)
 
 -- the others are false where a level above theirs was opened, and the last one is unset where its own level or a lower one was
-pub other_false : (t : Trail) (known : Known) (x : Step) (next : ℕ) (h : Learns t known x next) (s : IsSharp t (lits_of x) next) (p : ℕ) (d : TrailEntry) (l : ℤ) → slice_get t.entries p ≡ Some d → level_at t.entries l < d.level → Contains s.others l → value_of (before t p) l ≡ Some false
+pub other_false : (t : Trail) (known : Known) (x : Lesson) (next : ℕ) (h : Learns t known x next) (s : IsSharp t x.lits next) (p : ℕ) (d : TrailEntry) (l : ℤ) → slice_get t.entries p ≡ Some d → level_at t.entries l < d.level → Contains s.others l → value_of (before t p) l ≡ Some false
 other_false t known x next h s p d l q lt c =
-    let here = other_in t (lits_of x) next s l c in
+    let here = other_in t x.lits next s l c in
     low-value t.variables t.entries p d l false h.fresh h.levels q (lit_of t known x next l h here).0 lt (false_of t known x next l h here)
 
-lit_unset : (t : Trail) (known : Known) (x : Step) (next : ℕ) (h : Learns t known x next) (p : ℕ) (d : TrailEntry) (l : ℤ) → slice_get t.entries p ≡ Some d → d.reason ≡ None → d.level ≤ level_at t.entries l → Contains (lits_of x) l → is_unset (value_of (before t p) l) ≡ true
+lit_unset : (t : Trail) (known : Known) (x : Lesson) (next : ℕ) (h : Learns t known x next) (p : ℕ) (d : TrailEntry) (l : ℤ) → slice_get t.entries p ≡ Some d → d.reason ≡ None → d.level ≤ level_at t.entries l → Contains x.lits l → is_unset (value_of (before t p) l) ≡ true
 lit_unset t known x next h p d l q none le c =
     high-unset t.variables t.entries p d l h.fresh h.levels q none (lit_of t known x next l h c).0 (set_of t known x next l h c) le
 
-pub last_unset : (t : Trail) (known : Known) (x : Step) (next : ℕ) (h : Learns t known x next) (s : IsSharp t (lits_of x) next) (p : ℕ) (d : TrailEntry) → slice_get t.entries p ≡ Some d → d.reason ≡ None → is_unset (value_of (before t p) s.last) ≡ true
+pub last_unset : (t : Trail) (known : Known) (x : Lesson) (next : ℕ) (h : Learns t known x next) (s : IsSharp t x.lits next) (p : ℕ) (d : TrailEntry) → slice_get t.entries p ≡ Some d → d.reason ≡ None → is_unset (value_of (before t p) s.last) ≡ true
 last_unset t known x next h s p d q none =
-    lit_unset t known x next h p d s.last q none (let m = level-most t.entries p d h.levels q in omega (arith, m, s.top)) (last_in t (lits_of x) next s)
+    lit_unset t known x next h p d s.last q none (let m = level-most t.entries p d h.levels q in omega (arith, m, s.top)) (last_in t x.lits next s)
 
 pub open_unset : (o : Option Bool) → is_unset o ≡ true → not (is_false o) ≡ true
 open_unset None h = refl
@@ -148,7 +149,7 @@ open_false (Some true) e h = absurd (cc)
 open_false (Some false) e h = cc
 
 -- ---- it includes no clause that was known
-pub new-clause : (t : Trail) (known : Known) (x : Step) (next : ℕ) (id : ℕ) (c : Constraint) (ls : List ℤ) → Learns t known x next → constraint_at known id ≡ Some c → c ≡ clause_of ls → AreDifferent ls → IncludesTerms (lits_of x) c → ⊥
+pub new-clause : (t : Trail) (known : Known) (x : Lesson) (next : ℕ) (id : ℕ) (c : Constraint) (ls : List ℤ) → Learns t known x next → constraint_at known id ≡ Some c → c ≡ clause_of ls → AreDifferent ls → IncludesTerms x.lits c → ⊥
 new-clause t known x next id c ls h at is d inc =
     let s = sharp t known x next h in
     let o = top-opening t (above-ground t known x next h) in
@@ -160,7 +161,7 @@ new-clause t known x next id c ls h at is d inc =
     let only : (l : ℤ) → Contains ls l → is_open b l ≡ true → s.last ≡ literal_at (place l) (is_positive l) = λ l m op.
     (let l' = literal_at (place l) (is_positive l) in
     let op' : is_open b l' ≡ true = (open-reads b).at l ∙ op in
-    elim (lit_cases t (lits_of x) next s l' (inc.at l' 1 (subst (λ k. HasTerm l' 1 k.terms) (sym is) (clause-has ls l d m)))) [
+    elim (lit_cases t x.lits next s l' (inc.at l' 1 (subst (λ k. HasTerm l' 1 k.terms) (sym is) (clause-has ls l d m)))) [
       | inl old ↦ absurd (open_false (value_of b l')
           (other_false t known x next h s p.place p.entry l' p.there (let lo = All-contains (λ l. level_at t.entries l < level t) s.others l' s.below old in omega (arith, lo, lvl)) old) op')
       | inr e ↦ e
@@ -212,7 +213,7 @@ greatest_some es (m ∷ ls) h = elim (max_cases (level_at es m) (greatest_level 
 ]
 
 -- the place of the cut: where the level above the next one was opened
-pub cut-opening : (t : Trail) (known : Known) (x : Step) (next : ℕ) → Learns t known x next → Opens t.entries next
+pub cut-opening : (t : Trail) (known : Known) (x : Lesson) (next : ℕ) → Learns t known x next → Opens t.entries next
 cut-opening t known x next h =
     let s = sharp t known x next h in
     opens t.entries next (let g = greatest_under t.entries (level t) s.others (above-ground t known x next h) (λ l c. All-contains (λ l. level_at t.entries l < level t) s.others l s.below c) in omega (arith, g, s.next_is))
@@ -225,24 +226,24 @@ taken_below (x ∷ es) (suc n) zero e q = omega arith
 taken_below (x ∷ es) (suc n) (suc i) e q = omega (arith, taken_below es n i e q)
 
 -- the learned clause has two literals that aren't false before each decision that stays
-two_open : (t : Trail) (known : Known) (x : Step) (next : ℕ) (h : Learns t known x next) (i : ℕ) (e : TrailEntry) → slice_get t.entries i ≡ Some e → e.reason ≡ None → e.level ≤ next → 2 ≤ passes (is_open (before t i)) (lits_of x)
+two_open : (t : Trail) (known : Known) (x : Lesson) (next : ℕ) (h : Learns t known x next) (i : ℕ) (e : TrailEntry) → slice_get t.entries i ≡ Some e → e.reason ≡ None → e.level ≤ next → 2 ≤ passes (is_open (before t i)) x.lits
 two_open t known x next h i e q none le =
     let s = sharp t known x next h in
     let up = opening-level t.entries i e h.levels q none in
     let m = greatest_some t.entries s.others (omega (arith, up, le, s.next_is)) in
-    let other : is_unset (value_of (before t i) m.0) ≡ true = lit_unset t known x next h i e m.0 q none (let g = m.2 in omega (arith, g, le, s.next_is)) (other_in t (lits_of x) next s m.0 m.1) in
+    let other : is_unset (value_of (before t i) m.0) ≡ true = lit_unset t known x next h i e m.0 q none (let g = m.2 in omega (arith, g, le, s.next_is)) (other_in t x.lits next s m.0 m.1) in
     let last = last_unset t known x next h s i e q none in
     rw s.split (pass-two (is_open (before t i)) s.others m.0 s.last m.1 (open_unset (value_of (before t i) m.0) other) (open_unset (value_of (before t i) s.last) last))
 
-pub rested-learned : (t : Trail) (known : Known) (x : Step) (next : ℕ) (h : Learns t known x next) (o : Opens t.entries next) → AreRested t.variables (known ++ Some (added x) ∷ []) (take o.place t.entries)
-rested-learned t known x next h o = record {
+pub rested-learned : (t : Trail) (known later : Known) (x : Lesson) (next : ℕ) (h : Learns t known x next) → AreRested t.variables later t.entries → (o : Opens t.entries next) → AreRested t.variables (later ++ Some (clause_of x.lits) ∷ []) (take o.place t.entries)
+rested-learned t known later x next h still o = record {
   at = λ i e q none. (let r = get-taken t.entries o.place i e q in
       let le : e.level ≤ next = omega (arith, before-level t.entries o.place i e h.levels (taken_below t.entries o.place i e q) r.0, o.below) in
       rw r.1 (record {
-        at = λ id c k. elim (constraint_at-more known (Some (added x)) id c k) [
-          | inl old ↦ (h.rested.at i e r.0 none).at id c old
-          | inr new ↦ (let z : added x ≡ c = cc new in
-              subst (λ d. IsIdle d (before t i)) z (two-idle (before t i) (lits_of x) (lawful-different t.variables known x h.lawful) (two_open t known x next h i e r.0 none le)))
+        at = λ id c k. elim (constraint_at-more later (Some (clause_of x.lits)) id c k) [
+          | inl old ↦ (still.at i e r.0 none).at id c old
+          | inr new ↦ (let z : clause_of x.lits ≡ c = cc new in
+              subst (λ d. IsIdle d (before t i)) z (two-idle (before t i) x.lits (lawful-different t.variables 0 known (step_of x) (h.lawful 0)) (two_open t known x next h i e r.0 none le)))
         ];
       }));
 }

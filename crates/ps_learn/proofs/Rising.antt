@@ -5,7 +5,9 @@ use Rattle.std.proofs.lemmas.List.{append-nil}
 use Rattle.std.proofs.lemmas.Option.{slice_get_within}
 use Rattle.ps_pb.specs.Assignments.{place, value_of}
 use Rattle.ps_pb.specs.Constraints.{Constraint, is_open, HasTerm, is_violated}
-use Rattle.ps_pb.specs.Steps.{Known, constraint_at, Step, lits_of, added}
+use Rattle.ps_pb.specs.Weights.{clause_of}
+use Rattle.ps_pb.specs.Steps.{Known, constraint_at}
+use Rattle.ps_learn.specs.Lessons.{Lesson, step_of}
 use Rattle.ps_pb.proofs.Clauses.{different-differ}
 use Rattle.ps_pb.proofs.Lawful.{constraint_at-more}
 use Rattle.ps_pb.proofs.Short.{lawful-different}
@@ -39,45 +41,45 @@ last_known [] c = refl
 last_known (k ∷ known) c = last_known known c
 
 -- the learned clause isn't violated where the level above the next one was opened, and forces its last literal there
-clause_open : (t : Trail) (known : Known) (x : Step) (next : ℕ) → Learns t known x next → (o : Opens t.entries next) → is_violated (added x) (before t o.place) ≡ false
+clause_open : (t : Trail) (known : Known) (x : Lesson) (next : ℕ) → Learns t known x next → (o : Opens t.entries next) → is_violated (clause_of x.lits) (before t o.place) ≡ false
 clause_open t known x next h o =
     let s = sharp t known x next h in
     let b = before t o.place in
-    some-unviolated b (lits_of x) (lawful-different t.variables known x h.lawful)
-    (pass-one (is_open b) (lits_of x) s.last (last_in t (lits_of x) next s) (open_unset (value_of b s.last) (last_unset t known x next h s o.place o.entry o.there o.chosen)))
+    some-unviolated b x.lits (lawful-different t.variables 0 known (step_of x) (h.lawful 0))
+    (pass-one (is_open b) x.lits s.last (last_in t x.lits next s) (open_unset (value_of b s.last) (last_unset t known x next h s o.place o.entry o.there o.chosen)))
 
-clause_busy : (t : Trail) (known : Known) (x : Step) (next : ℕ) → Learns t known x next → (o : Opens t.entries next) → IsIdle (added x) (before t o.place) → ⊥
+clause_busy : (t : Trail) (known : Known) (x : Lesson) (next : ℕ) → Learns t known x next → (o : Opens t.entries next) → IsIdle (clause_of x.lits) (before t o.place) → ⊥
 clause_busy t known x next h o idle =
     let s = sharp t known x next h in
     let b = before t o.place in
-    let d = lawful-different t.variables known x h.lawful in
+    let d = lawful-different t.variables 0 known (step_of x) (h.lawful 0) in
     let lvl = opening-level t.entries o.place o.entry h.levels o.there o.chosen in
-    let here = last_in t (lits_of x) next s in
-    let few : passes (is_open b) (lits_of x) ≤ 1 = pass-most (is_open b) (place s.last) (lits_of x) (different-differ (lits_of x) d) (λ l c op. elim (lit_cases t (lits_of x) next s l c) [
+    let here = last_in t x.lits next s in
+    let few : passes (is_open b) x.lits ≤ 1 = pass-most (is_open b) (place s.last) x.lits (different-differ x.lits d) (λ l c op. elim (lit_cases t x.lits next s l c) [
       | inl old ↦ absurd (open_false (value_of b l) (other_false t known x next h s o.place o.entry l o.there (let g = greatest_over t.entries s.others l old in omega (arith, g, lvl, o.below, s.next_is)) old) op)
       | inr e ↦ ap place (sym e)
     ]) in
-    let term : HasTerm s.last 1 (added x).terms = subst (λ l. HasTerm l 1 (added x).terms) (literal-same s.last (lit_of t known x next s.last h here).0) (clause-has (lits_of x) s.last d here) in
-    forces-busy (added x) b s.last (one-forces b (lits_of x) s.last d few term (last_unset t known x next h s o.place o.entry o.there o.chosen)) idle
+    let term : HasTerm s.last 1 (clause_of x.lits).terms = subst (λ l. HasTerm l 1 (clause_of x.lits).terms) (literal-same s.last (lit_of t known x next s.last h here).0) (clause-has x.lits s.last d here) in
+    forces-busy (clause_of x.lits) b s.last (one-forces b x.lits s.last d few term (last_unset t known x next h s o.place o.entry o.there o.chosen)) idle
 
-none_violated : (t : Trail) (known : Known) (x : Step) (next : ℕ) → Learns t known x next → (o : Opens t.entries next) → (id : ℕ) → IsConflict (known ++ Some (added x) ∷ []) (before t o.place) id → ⊥
-none_violated t known x next h o id w = elim (constraint_at-more known (Some (added x)) id w.constraint w.known_at) [
-  | inl old ↦ cc (((h.rested.at o.place o.entry o.there o.chosen).at id w.constraint old).unviolated, w.violated)
-  | inr new ↦ (let z : added x ≡ w.constraint = cc new in
+none_violated : (t : Trail) (known later : Known) (x : Lesson) (next : ℕ) → Learns t known x next → AreRested t.variables later t.entries → (o : Opens t.entries next) → (id : ℕ) → IsConflict (later ++ Some (clause_of x.lits) ∷ []) (before t o.place) id → ⊥
+none_violated t known later x next h still o id w = elim (constraint_at-more later (Some (clause_of x.lits)) id w.constraint w.known_at) [
+  | inl old ↦ cc (((still.at o.place o.entry o.there o.chosen).at id w.constraint old).unviolated, w.violated)
+  | inr new ↦ (let z : clause_of x.lits ≡ w.constraint = cc new in
       let no : is_violated w.constraint (before t o.place) ≡ false = subst (λ c. is_violated c (before t o.place) ≡ false) z (clause_open t known x next h o) in
       cc (no, w.violated))
 ]
 
 -- what comes after the cut begins with an implied literal, at the place of a decided one
-rises : (t : Trail) (known : Known) (x : Step) (next r : ℕ) → Learns t known x next → (o : Opens t.entries next) → r ≤ rank t.variables t.entries → (more : List TrailEntry) (id : ℕ) → AreRested t.variables (known ++ Some (added x) ∷ []) (take o.place t.entries ++ more) → IsConflict (known ++ Some (added x) ∷ []) (values_of t.variables (take o.place t.entries ++ more)) id → suc r ≤ rank t.variables (take o.place t.entries ++ more)
-rises t known x next r h o le [] id rested w = absurd (none_violated t known x next h o id (subst (λ es. IsConflict (known ++ Some (added x) ∷ []) (values_of t.variables es) id) (append-nil (take o.place t.entries)) w))
-rises t known x next r h o le (y ∷ rest) id rested w = by_reason y.reason refl
+rises : (t : Trail) (known later : Known) (x : Lesson) (next r : ℕ) → Learns t known x next → AreRested t.variables later t.entries → (o : Opens t.entries next) → r ≤ rank t.variables t.entries → (more : List TrailEntry) (id : ℕ) → AreRested t.variables (later ++ Some (clause_of x.lits) ∷ []) (take o.place t.entries ++ more) → IsConflict (later ++ Some (clause_of x.lits) ∷ []) (values_of t.variables (take o.place t.entries ++ more)) id → suc r ≤ rank t.variables (take o.place t.entries ++ more)
+rises t known later x next r h still o le [] id rested w = absurd (none_violated t known later x next h still o id (subst (λ es. IsConflict (later ++ Some (clause_of x.lits) ∷ []) (values_of t.variables es) id) (append-nil (take o.place t.entries)) w))
+rises t known later x next r h still o le (y ∷ rest) id rested w = by_reason y.reason refl
   where
     by_reason : (q : Option ℕ) → y.reason ≡ q → suc r ≤ rank t.variables (take o.place t.entries ++ y ∷ rest)
     by_reason None q =
         let front = take o.place t.entries in
-        let idle = (rested.at (length front) y (get_at front y rest) q).at (suc (length known)) (added x) (last_known known (added x)) in
-        absurd (clause_busy t known x next h o (subst (λ es. IsIdle (added x) (values_of t.variables es)) (take_at front (y ∷ rest)) idle))
+        let idle = (rested.at (length front) y (get_at front y rest) q).at (suc (length later)) (clause_of x.lits) (last_known later (clause_of x.lits)) in
+        absurd (clause_busy t known x next h o (subst (λ es. IsIdle (clause_of x.lits) (values_of t.variables es)) (take_at front (y ∷ rest)) idle))
     by_reason (Some i) q =
         let p = parts t.entries o.place o.entry o.there in
         let within : o.place < length t.entries = slice_get_within t.entries o.place o.entry o.there in
@@ -86,8 +88,8 @@ rises t known x next r h o le (y ∷ rest) id rested w = by_reason y.reason refl
         let was : rank t.variables t.entries ≡ rank t.variables (take o.place t.entries ++ o.entry ∷ p.0) = ap (rank t.variables) p.1 in
         omega (arith, le, up, was)
 
-pub risen-learned : (t : Trail) (known : Known) (x : Step) (next r : ℕ) → Learns t known x next → (o : Opens t.entries next) → r ≤ rank t.variables t.entries → HasRisen t.variables (known ++ Some (added x) ∷ []) (take o.place t.entries) (suc r)
-risen-learned t known x next r h o le = record { at = λ more id rested w. rises t known x next r h o le more id rested w }
+pub risen-learned : (t : Trail) (known later : Known) (x : Lesson) (next r : ℕ) → Learns t known x next → AreRested t.variables later t.entries → (o : Opens t.entries next) → r ≤ rank t.variables t.entries → HasRisen t.variables (later ++ Some (clause_of x.lits) ∷ []) (take o.place t.entries) (suc r)
+risen-learned t known later x next r h still o le = record { at = λ more id rested w. rises t known later x next r h still o le more id rested w }
 
 -- at first nothing is asked
 pub risen-none : (v : ℕ) (known : Known) (es : List TrailEntry) → HasRisen v known es 0

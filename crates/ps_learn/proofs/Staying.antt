@@ -6,7 +6,8 @@ use Rattle.std.proofs.lemmas.List.Elements.{All-head, All-tail}
 use Rattle.std.proofs.lemmas.Bool.{cases_Bool, and_parts}
 use Rattle.ps_pb.specs.Assignments.{Assignment, place, is_positive, agree, value_of, with_false, is_false, is_unset, all_unset, Includes}
 use Rattle.ps_pb.specs.Constraints.{Constraint, Covers, HasTerm, Forces, slack, is_violated, is_forced, some_forced, with_forced}
-use Rattle.ps_pb.specs.Steps.{Known, constraint_at, Step, lits_of, hints_of, Propagation, Open, Conflict, Refused, at_constraint, after_hint, after_hints, and_false, all_false, IsLawful}
+use Rattle.ps_pb.specs.Steps.{Known, constraint_at, Propagation, Open, Conflict, Refused, at_constraint, after_hint, after_hints, and_false, all_false}
+use Rattle.ps_learn.specs.Lessons.{IsLawfulClause}
 use Rattle.ps_pb.proofs.Values.{includes-refl, includes-trans, signed-some, value-set}
 use Rattle.ps_pb.proofs.Forcing.{Among, among-refl, among-rest, next_forced, next-includes, lt-of}
 use Rattle.ps_pb.proofs.Setting.{includes-one, unset-below, forced-some}
@@ -109,11 +110,11 @@ lits_in b a x (l ∷ ls) inc h e = elim (cases_Bool (nat_lt (place l) (length x)
 unset_in : (b : Assignment) (v : ℕ) → Includes b (all_unset v)
 unset_in b v = record { at = λ l x e. absurd (cc (value-unset v l, e)) }
 
--- a step whose literals are all false there isn't lawful
-pub rest-lawless : (v : ℕ) (known : Known) (b : Assignment) (s : Step) → IsAtRest known b → All (IsFalseIn b) (lits_of s) → IsLawful v known s → ⊥
+-- a clause whose literals are all false there isn't lawful
+pub rest-lawless : (v : ℕ) (known : Known) (b : Assignment) (id : ℕ) (lits : List ℤ) (hints : List ℕ) → IsAtRest known b → All (IsFalseIn b) lits → IsLawfulClause v known id lits hints → ⊥
 unfolding all_false
-rest-lawless v known b s rest h lawful =
-    let start = lawful-start v known s lawful in
-    let inc : Includes b start.0 = lits_in b start.0 (all_unset v) (lits_of s) (unset_in b v) h start.1 in
-    let stays = hints-stay known b (Open start.0) (hints_of s) rest inc in
+rest-lawless v known b id lits hints rest h lawful =
+    let start = lawful-start v 0 known id lits hints (lawful 0) in
+    let inc : Includes b start.0 = lits_in b start.0 (all_unset v) lits (unset_in b v) h start.1 in
+    let stays = hints-stay known b (Open start.0) hints rest inc in
     rw start.2 at stays

@@ -9,6 +9,7 @@ pub mod Rest
 pub mod Falsity
 pub mod Learning
 pub mod Hints
+pub mod Lessons
 -- Laws, as the functions of trail_laws.rt and learn_laws.rt promise them
 pub mod TrailLaws
 pub mod LearnLaws

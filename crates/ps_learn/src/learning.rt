@@ -1,7 +1,8 @@
 //! Learning a clause from a conflict.
-ghost use Rattle.std.specs.Prelude.{◌≡◌, ◌≤◌, ◌+◌, length, true, IfOk, All};
+ghost use Rattle.std.specs.Prelude.{◌≡◌, ◌≤◌, ◌+◌, [], length, IfOk, All};
 ghost use Rattle.ps_pb.specs.Assignments.{all_unset};
-ghost use Rattle.ps_pb.specs.Steps.{IsLawful, known_of, lits_of, hints_of, is_contradiction};
+ghost use Rattle.ps_pb.specs.Steps.{known_of};
+ghost use Rattle.ps_learn.specs.Lessons.{IsLawfulClause};
 ghost use Rattle.ps_learn.specs.Known.{most_known, IsIdUpTo};
 ghost use Rattle.ps_learn.specs.Trails.{values, level, IsLit, AreReasons, IsConflict};
 ghost use Rattle.ps_learn.specs.Levels.{IsAsserting};
@@ -17,22 +18,26 @@ use crate::explaining::explain_conflict;
 use crate::marks::is_marked;
 use crate::trail::Trail;
 use ps_io::{List, NoMemory};
-use ps_pb::{Assignment, Constraint, Effect, Hints, Lits, Step, constraint_at, propagate};
+use ps_pb::{Assignment, Constraint, Effect, Hints, Lits, constraint_at, propagate};
 use std::alloc::Global;
 
-/// A step, the level to go on from, and the marked variables: those of the false literals of the
-/// conflict and of the reasons that were gone along.
+/// A clause with its hints, the level to go on from, and the marked variables: those of the false
+/// literals of the conflict and of the reasons that were gone along.
 #[derive(Drop)]
 pub struct Learned {
-    /// The step: the learned clause with its hints.
-    pub step: Step,
+    /// The id of the clause: the next one.
+    pub id: u64,
+    /// The literals of the clause.
+    pub lits: Lits,
+    /// The ids of the constraints from which the clause follows by propagation.
+    pub hints: Hints,
     /// The level to go on from.
     pub level: u32,
     /// Whether each variable is marked.
     pub marks: Vec<bool>,
 }
 
-/// A lawful step from a conflict. Its clause has the opposites of the causes that were kept: of one
+/// A clause that is lawful, from a conflict. It has the opposites of the causes that were kept: of one
 /// literal of the last level at most, and of literals of lower levels, the greatest of which is the
 /// level to go on from. All of them are false on the trail. A conflict at level 0 gives the clause
 /// without literals.
@@ -45,14 +50,15 @@ pub fn learn(
     requires reasons { AreReasons trail.now.variables (known_of known.now) trail.now.entries }
     requires conflict { IsConflict (known_of known.now) (values trail.now) conflict }
     requires few { length known.now ≤ most_known }
-    ensures lawful { IfOk result (λ x. IsLawful trail.now.variables (known_of known.now) x.step) }
-    ensures asserting { IfOk result (λ x. IsAsserting trail.now (lits_of x.step) x.level) }
-    ensures ground { IfOk result (λ x. level trail.now ≡ 0 → is_contradiction x.step ≡ true) }
-    ensures literals { IfOk result (λ x. All (IsLit trail.now.variables) (lits_of x.step)) }
-    ensures falsified { IfOk result (λ x. AreFalseIn (values trail.now) (lits_of x.step)) }
-    ensures few_literals { IfOk result (λ x. length (lits_of x.step) ≤ trail.now.variables) }
-    ensures hints { IfOk result (λ x. All (IsIdUpTo (length known.now)) (hints_of x.step)) }
-    ensures few_hints { IfOk result (λ x. length (hints_of x.step) ≤ trail.now.variables + 1) }
+    ensures lawful { IfOk result
+        (λ x. IsLawfulClause trail.now.variables (known_of known.now) x.id x.lits x.hints) }
+    ensures asserting { IfOk result (λ x. IsAsserting trail.now x.lits x.level) }
+    ensures ground { IfOk result (λ x. level trail.now ≡ 0 → x.lits ≡ []) }
+    ensures literals { IfOk result (λ x. All (IsLit trail.now.variables) x.lits) }
+    ensures falsified { IfOk result (λ x. AreFalseIn (values trail.now) x.lits) }
+    ensures few_literals { IfOk result (λ x. length x.lits ≤ trail.now.variables) }
+    ensures hints { IfOk result (λ x. All (IsIdUpTo (length known.now)) x.hints) }
+    ensures few_hints { IfOk result (λ x. length x.hints ≤ trail.now.variables + 1) }
     ensures level { IfOk result (λ x. x.level ≤ level trail.now) }
     ensures marks { IfOk result (MarksCauses (known_of known.now) trail.now conflict) }
 {
@@ -62,13 +68,10 @@ pub fn learn(
     let mut a = Assignment::new(alloc, trail.variables())?;
     let kept = kept_lits(alloc, trail, &causes.kept, &mut a)?;
     let hints = hints(alloc, known, trail, &causes.marks, &mut a, conflict)?;
-    let step = Step {
+    Ok(Learned {
         id: known.len() as u64 + 1,
         lits: kept.lits,
         hints,
-    };
-    Ok(Learned {
-        step,
         level: kept.next,
         marks: causes.marks,
     })

@@ -6,7 +6,7 @@ use Rattle.ps_learn.proofs.Counting.{counted}
 use Rattle.ps_learn.proofs.Following.{learned-lawful}
 use Rattle.ps_learn.proofs.Asserting.{asserting-most}
 use Rattle.ps_learn.proofs.Falsity.{kept-false}
-use Rattle.ps_learn.proofs.Ground.{ground-contradiction}
+use Rattle.ps_learn.proofs.Ground.{ground-empty}
 use Rattle.ps_learn.proofs.Marked.{has_marked_causes, is_reached}
 use Rattle.ps_learn.proofs.learning.learn.Goals as goal
 
@@ -38,4 +38,4 @@ returns-clause-marks c =
     (subst (λ kept. AreKeptLits c.args.trail.now kept c.in_ok-kept.kept.lits c.kept_lits.new.a) c.deref.ensures.value c.in_ok-kept.ensures.lits)
 
 pub returns-clause-ground : goal.returns-clause-ground
-returns-clause-ground c = ground-contradiction c.args.trail.now (record { id = c.len.result + 1; lits = c.in_ok-kept.kept.lits; hints = c.in_ok-hints.hints }) _ c.entries-entries.ensures.levels c.in_ok-kept.ensures.asserting
+returns-clause-ground c = ground-empty c.args.trail.now c.in_ok-kept.kept.lits _ c.entries-entries.ensures.levels c.in_ok-kept.ensures.asserting
