@@ -10,12 +10,13 @@ use Rattle.ps_pb.specs.Weights.{Weighted, constraint_of}
 use Rattle.ps_pb.proofs.Linear.{met-weight, weight-met}
 use Rattle.ps_clause.specs.Forms.{Form, MeetsForm}
 use Rattle.ps_pb.specs.Weights.{IsWithin}
-use Rattle.ps_pb.specs.Steps.{Step}
+use Rattle.ps_pb.specs.declared.step.Step.TheVariants.{Clause}
+use Rattle.ps_clause.specs.Spent.{is_clause, is_deletion, clause_count, deletion_count}
 use Rattle.ps_sat.specs.Searches.{IsOutcome, IsLogged, HoldsLearned}
 use Rattle.ps_sat.specs.declared.searching.Outcome.{Outcome}
 use Rattle.ps_sat.specs.declared.error.SearchError.{SearchError}
 use Rattle.ps_sat.specs.declared.searching.Outcome.TheVariants.{Found, Refuted, Spent}
-use Rattle.ps_sat.proofs.SearchSteps.{handed_told, handed_stays}
+use Rattle.ps_sat.proofs.SearchSteps.{handed_told, handed_stays, count-one}
 use Rattle.ps_maxsat.specs.declared.problem.Wcnf.{Wcnf}
 use Rattle.ps_maxsat.specs.declared.pricing.Priced.{Priced}
 use Rattle.ps_maxsat.specs.Values.{value, goal_of, IsOf, NoneIsAbove, NoneIsBetween, IsHalfway, HoldsSearch, HoldsFound, HoldsRefutation, HoldsLast, HoldsSteps, HoldsSome, IsGoal, most_value, IsLogAfterFailed, IsLogAfterError, IsGoalLogged, IsBestLogged}
@@ -109,16 +110,22 @@ held-last p v bound conflicts told new e h = subst (λ x. HoldsLast p v x confli
 pub bound-above : (p : Wcnf) (a : Assignment) (v bound : ℤ) → IsOf p a v → NoneIsAbove p bound → v ≤ℤ bound
 bound-above p a v bound own none = omega (arith, ints, own.4, none own.0 own.3)
 
-refuted_few : (conflicts : ℕ) (ss front : List Step) (s : Step) → ss ≡ front ++ s ∷ [] → length front ≤ conflicts → length ss ≤ conflicts + 1
-refuted_few conflicts ss front s e h = omega (arith, ap length e, length-append front (s ∷ []), h)
+refuted_steps : (p : Wcnf) (least : ℤ) (conflicts last : ℕ) (told : Bool) (new : Telling) → HoldsSearch p least conflicts told new (Refuted last) → HoldsSteps p least conflicts told new
+refuted_steps p least conflicts last told new h =
+    let shown = h.1 in
+    let front = shown.0 in
+    let l = shown.3 in
+    let clauses : clause_count h.0.steps ≡ clause_count front + 1 = ap clause_count shown.2 ∙ count-one is_clause front (Clause last [] shown.1) (clause_count front) 1 refl refl in
+    let deletions : deletion_count h.0.steps ≡ deletion_count front + 0 = ap deletion_count shown.2 ∙ count-one is_deletion front (Clause last [] shown.1) (deletion_count front) 0 refl refl in
+    record { handed = h.0; few = omega (arith, clauses, l.count); half = omega (arith, clauses, deletions, l.half) }
 
 -- the steps of the last search
 pub last-steps : (p : Wcnf) (v bound : ℤ) (conflicts : ℕ) (told : Bool) (new : Telling) → HoldsLast p v bound conflicts told new → HoldsSome p conflicts told new
-last-steps p v bound conflicts told new (inl h) = record { least = h.least; goal = h.goal; held = record { handed = h.handed; few = omega (arith, h.learned.count) } }
+last-steps p v bound conflicts told new (inl h) = record { least = h.least; goal = h.goal; held = record { handed = h.handed; few = omega (arith, h.learned.count); half = h.learned.half } }
 last-steps p v bound conflicts told new (inr h) = record {
   least = h.least;
   goal = h.goal;
-  held = record { handed = h.held.0; few = let shown = h.held.1 in refuted_few conflicts h.held.0.steps shown.0 shown.1 shown.2 shown.3.count };
+  held = refuted_steps p h.least conflicts h.last told new h.held;
 }
 
 -- they stay with the log
@@ -129,6 +136,7 @@ stay_held p conflicts told mid new st h = record {
   held = record {
     handed = handed_stays p.hard (goal_of p h.least) told mid new st h.held.handed;
     few = h.held.few;
+    half = h.held.half;
   };
 }
 
@@ -136,6 +144,7 @@ later_held : (p : Wcnf) (least : ℤ) (conflicts : ℕ) (told later : Bool) (new
 later_held p least conflicts told later new tell h = record {
   handed = handed_told p.hard (goal_of p least) told later new tell h.handed;
   few = h.few;
+  half = h.half;
 }
 
 -- after an error in a later search the log holds its steps, or those of the last one
@@ -149,7 +158,7 @@ on-error p conflicts old new (Err e) _ h = h
 
 -- an error of a search is one of the search for a value
 learned_steps : (p : Wcnf) (least : ℤ) (conflicts : ℕ) (told : Bool) (new : Telling) → HoldsLearned p.hard (goal_of p least) conflicts told new → HoldsSteps p least conflicts told new
-learned_steps p least conflicts told new h = record { handed = h.0; few = omega (arith, h.1.count) }
+learned_steps p least conflicts told new h = record { handed = h.0; few = omega (arith, h.1.count); half = h.1.half }
 
 goal_logged : (p : Wcnf) (least : ℤ) (conflicts : ℕ) (old new : Telling) (r : Result Outcome SearchError) → IsLogged p.hard (goal_of p least) conflicts old new r → IsGoalLogged p least conflicts old new r
 goal_logged p least conflicts old new (Ok o) h = h

@@ -1,10 +1,11 @@
 -- Values of assignments, and which is the greatest.
-use Rattle.std.specs.Prelude.{ℕ, ◌≡◌, ◌≤◌, ◌<◌, ◌+◌, ℤ, pos, ◌+ℤ◌, ◌-ℤ◌, ◌≤ℤ◌}
+use Rattle.std.specs.Prelude.{ℕ, ◌≡◌, ◌≤◌, ◌<◌, ◌+◌, ◌*◌, ℤ, pos, ◌+ℤ◌, ◌-ℤ◌, ◌≤ℤ◌}
 use Rattle.std.specs.Prelude.{◌<ℤ◌, Bool, Result, Ok, Err, List, length, All, ◌⊎◌}
 use Rattle.ps_pb.specs.Assignments.{Assignment, place, full}
 use Rattle.ps_pb.specs.Constraints.{Constraint}
 use Rattle.ps_pb.specs.Weights.{true_weight, constraint_of}
 use Rattle.ps_clause.specs.Forms.{MeetsForm}
+use Rattle.ps_clause.specs.Spent.{clause_count, deletion_count}
 use Rattle.ps_log.specs.Logs.{Telling, Stays}
 use Rattle.ps_sat.specs.Searches.{Handed, AreLearned}
 use Rattle.ps_sat.specs.declared.searching.Outcome.TheVariants as search
@@ -92,7 +93,7 @@ pub record HoldsFound (p : Wcnf) (v : ℤ) (conflicts : ℕ) (told : Bool) (new 
   pub goal : IsGoal p least
   pub up : least ≤ℤ v
   pub handed : Handed p.hard (goal_of p least) told new
-  pub learned : AreLearned p.hard conflicts handed.steps
+  pub learned : AreLearned p.hard (goal_of p least) conflicts handed.steps
 
 -- the log holds the refutation of a goal above the bound, and no assignment has a value between the two
 pub record HoldsRefutation (p : Wcnf) (bound : ℤ) (conflicts : ℕ) (told : Bool) (new : Telling) : Type 0 where
@@ -114,11 +115,12 @@ IsPricedLog p conflicts told new (Best a v searches) = HoldsLast p v v conflicts
 IsPricedLog p conflicts told new (Cut a v least searches) = HoldsSearch p least conflicts told new (search.Spent conflicts)
 IsPricedLog p conflicts told new (Spent learned) = HoldsSearch p (pos 1) conflicts told new (search.Spent learned)
 
--- the log holds the goal of a search for a value of at least so much, and lawful steps, at most one more than clauses may be
--- learned
+-- the log holds the goal of a search for a value of at least so much, and lawful steps: at most one clause more than may be
+-- learned, and deletions of at most half of them
 pub record HoldsSteps (p : Wcnf) (least : ℤ) (conflicts : ℕ) (told : Bool) (new : Telling) : Type 0 where
   pub handed : Handed p.hard (goal_of p least) told new
-  pub few : length handed.steps ≤ conflicts + 1
+  pub few : clause_count handed.steps ≤ conflicts + 1
+  pub half : 2 * deletion_count handed.steps ≤ clause_count handed.steps
 
 -- after an error in this search the log is as before, or holds its steps
 abbrev pub IsLogAfterFailed : Wcnf → ℤ → ℕ → Telling → Telling → Type 0

@@ -47,17 +47,17 @@ one-new ids more new x e = rw e (record {
   there = behind ids x more 0;
 })
 
-covers-watched : (w w' : Watches) (scanned : List ℕ) (f s : ℤ) (id : ℕ) → HasWatched w w' f s id → (x : ℕ) → IsCoveredBy w scanned x → IsCoveredBy w' scanned x
-covers-watched w w' scanned f s id h x (inl one) = inl (one-longer w.ids.items (id ∷ id ∷ []) w'.ids.items x h.ids one)
-covers-watched w w' scanned f s id h x (inr one) = inr one
+covers-watched : (cs : List Constraint) (w w' : Watches) (scanned : List ℕ) (f s : ℤ) (id : ℕ) → HasWatched cs w w' f s id → (x : ℕ) → IsCoveredBy w scanned x → IsCoveredBy w' scanned x
+covers-watched cs w w' scanned f s id h x (inl one) = inl (one-longer w.ids.items (id ∷ id ∷ []) w'.ids.items x h.ids one)
+covers-watched cs w w' scanned f s id h x (inr one) = inr one
 
 covers-scanned : (w : Watches) (scanned new : List ℕ) (id : ℕ) → new ≡ scanned ++ id ∷ [] → (x : ℕ) → IsCoveredBy w scanned x → IsCoveredBy w new x
 covers-scanned w scanned new id e x (inl one) = inl one
 covers-scanned w scanned new id e x (inr one) = inr (one-longer scanned (id ∷ []) new x e one)
 
-pub more-watched : (w w' : Watches) (scanned : List ℕ) (f s : ℤ) (id : ℕ) → HasWatched w w' f s id → CoversMore id w scanned w' scanned
-more-watched w w' scanned f s id h = record {
-  each = covers-watched w w' scanned f s id h;
+pub more-watched : (cs : List Constraint) (w w' : Watches) (scanned : List ℕ) (f s : ℤ) (id : ℕ) → HasWatched cs w w' f s id → CoversMore id w scanned w' scanned
+more-watched cs w w' scanned f s id h = record {
+  each = covers-watched cs w w' scanned f s id h;
   own = inl (one-new w.ids.items (id ∷ []) w'.ids.items id h.ids);
 }
 
@@ -81,16 +81,16 @@ two-pair v cs c f s id at inside two = record {
 never : (t : Trail) (n : ℕ) (l : ℤ) → AreFresh t.variables t.entries → n ≤ length t.entries → is_open (values t) l ≡ true → value_of (values_to t n) l ≡ Some false → ⊥
 never t n l f h o q = false-closed (values t) l ((part-included t n f h).at l false q) o
 
-pub linked-open : (cs : List Constraint) (id : ℕ) (w : Watches) (t : Trail) (w' : Watches) (c : Constraint) (f s : ℤ) → AreFresh t.variables t.entries → AreLevels t.entries → IsKept t.variables cs w' → IsFiled t.variables w' → HasWatched w w' f s id → AreOpen c t f s → HasLinked cs w t w' t
+pub linked-open : (cs : List Constraint) (id : ℕ) (w : Watches) (t : Trail) (w' : Watches) (c : Constraint) (f s : ℤ) → AreFresh t.variables t.entries → AreLevels t.entries → IsKept t.variables cs w' → IsFiled t.variables cs w' → HasWatched cs w w' f s id → AreOpen c t f s → HasLinked cs w t w' t
 linked-open cs id w t w' c f s fresh levels kept filed h o = record {
   kept = kept;
   filed = filed;
   extends = extends-same (known_of cs) t;
   good = λ n within g. h.good (values_to t n) (values t) g (λ q. absurd (never t n f fresh within o.first_open q)) (λ q. absurd (never t n s fresh within o.second_open q));
-  lower = λ g. closed-watched w w' t f s id (level t) h (open-below t f (level t) fresh levels o.first_open) (open-below t s (level t) fresh levels o.second_open) g;
+  lower = λ g. closed-watched cs w w' t f s id (level t) h (open-below t f (level t) fresh levels o.first_open) (open-below t s (level t) fresh levels o.second_open) g;
 }
 
-pub linked-last : (cs : List Constraint) (id : ℕ) (w : Watches) (t : Trail) (w' : Watches) (u : Trail) (c : Constraint) (f s : ℤ) → AreFresh t.variables t.entries → AreLevels t.entries → 1 ≤ unsigned_abs s → IsKept t.variables cs w' → IsFiled t.variables w' → HasWatched w w' f s id → AreLast c t f s → Extends (known_of cs) t u → value_of (values u) f ≡ Some true
+pub linked-last : (cs : List Constraint) (id : ℕ) (w : Watches) (t : Trail) (w' : Watches) (u : Trail) (c : Constraint) (f s : ℤ) → AreFresh t.variables t.entries → AreLevels t.entries → 1 ≤ unsigned_abs s → IsKept t.variables cs w' → IsFiled t.variables cs w' → HasWatched cs w w' f s id → AreLast c t f s → Extends (known_of cs) t u → value_of (values u) f ≡ Some true
     → HasLinked cs w t w' u
 linked-last cs id w t w' u c f s fresh levels one kept filed h o x set = record {
   kept = kept;
@@ -98,16 +98,16 @@ linked-last cs id w t w' u c f s fresh levels one kept filed h o x set = record 
   extends = x;
   good = λ n within g.
       rw (part-same cs t u n x within)
-      (h.good (values_to t n) (values u) (good-grows w (values_to t n) (values t) (values u) x.includes g) (λ q. absurd (never t n f fresh within o.first_open q)) (λ q. set));
+      (h.good (values_to t n) (values u) (good-grows cs w (values_to t n) (values t) (values u) x.includes g) (λ q. absurd (never t n f fresh within o.first_open q)) (λ q. set));
   lower = λ g. record {
     at = λ m less.
         let a = values (up_to m t) in
-        subst (λ (z : Trail). AreGood w' (values z) (values z)) (sym (x.lower m less))
+        subst (λ (z : Trail). AreGood cs w' (values z) (values z)) (sym (x.lower m less))
         (h.good a a (g.at m less) (λ q. absurd ((open-below t f (level t) fresh levels o.first_open).at m less q)) (λ q. absurd ((top-above t s fresh levels one o.second_false).at m less q)));
   };
 }
 
-pub linked-same : (cs : List Constraint) (w : Watches) (t : Trail) → IsKept t.variables cs w → IsFiled t.variables w → HasLinked cs w t w t
+pub linked-same : (cs : List Constraint) (w : Watches) (t : Trail) → IsKept t.variables cs w → IsFiled t.variables cs w → HasLinked cs w t w t
 linked-same cs w t kept filed = record {
   kept = kept;
   filed = filed;
@@ -120,10 +120,10 @@ linked-same cs w t kept filed = record {
 pub linked-then : (cs : List Constraint) (w : Watches) (t : Trail) (w1 : Watches) (t1 : Trail) (w2 : Watches) (t2 : Trail) → HasLinked cs w t w1 t1 → HasLinked cs w1 t1 w2 t2 → HasLinked cs w t w2 t2
 linked-then cs w t w1 t1 w2 t2 a b = record {
   kept = subst (λ v. IsKept v cs w2) a.extends.variables b.kept;
-  filed = subst (λ v. IsFiled v w2) a.extends.variables b.filed;
+  filed = subst (λ v. IsFiled v cs w2) a.extends.variables b.filed;
   extends = extends-then (known_of cs) t t1 t2 a.extends b.extends;
   good = λ n within g. b.good n (part-within cs t t1 n a.extends within) (a.good n within g);
-  lower = λ g. subst (IsClosedBelow w2 t2) a.extends.level_is (b.lower (subst (IsClosedBelow w1 t1) (sym a.extends.level_is) (a.lower g)));
+  lower = λ g. subst (IsClosedBelow cs w2 t2) a.extends.level_is (b.lower (subst (IsClosedBelow cs w1 t1) (sym a.extends.level_is) (a.lower g)));
 }
 
 -- one of a list is one of its front, or the last one

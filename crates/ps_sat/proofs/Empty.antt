@@ -31,11 +31,12 @@ empty-kept v known w en eh el eo ei = record {
   slots = ap length eh ∙ length-replicate (v * 2 + 1) END;
   others = ap length eo ∙ ap length (sym el);
   ids = ap length ei ∙ ap length (sym el);
-  watches = λ n h. absurd (omega (arith, subst (λ (z : List ℤ). n < length z) el h));
+  twos = λ n h. absurd (omega (arith, subst (λ (z : List ℤ). n < length z) el h));
+  watches = λ n h live. absurd (omega (arith, subst (λ (z : List ℤ). n < length z) el h));
 }
 
-pub empty-filed : (v : ℕ) (w : Watches) → w.links.next.items ≡ [] → w.lits.items ≡ [] → IsFiled v w
-empty-filed v w en el = record {
+pub empty-filed : (v : ℕ) (known : List Constraint) (w : Watches) → w.links.next.items ≡ [] → w.lits.items ≡ [] → IsFiled v known w
+empty-filed v known w en el = record {
   spare = ap (λ (z : List ℕ). list_at z w.links.heads.items (spare_of v)) en ∙ none-listed w.links.heads.items (spare_of v);
-  at = λ n h. absurd (omega (arith, subst (λ (z : List ℤ). n < length z) el h));
+  at = λ n h live. absurd (omega (arith, subst (λ (z : List ℤ). n < length z) el h));
 }

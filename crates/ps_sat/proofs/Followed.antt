@@ -15,7 +15,7 @@ use Rattle.ps_learn.proofs.Marking.{values-earlier}
 use Rattle.ps_sat.specs.declared.links.TheConstants.{END}
 use Rattle.ps_sat.specs.declared.visiting.Watches.{Watches}
 use Rattle.ps_sat.specs.Links.{Holds}
-use Rattle.ps_sat.specs.Watches.{slot_of, spare_of, lit_of, other_of, list_of, IsKept, IsPlaced, IsFiled, AreGood, Extends}
+use Rattle.ps_sat.specs.Watches.{slot_of, spare_of, number_at, lit_of, other_of, list_of, Stands, IsLive, IsKept, IsPlaced, IsFiled, AreGood, Extends}
 use Rattle.ps_sat.specs.Going.{IsSent, watched, HasGone, IsOppositeAt, AreVisited, HasFollowed, IsGoodUpTo, values_to}
 use Rattle.ps_sat.proofs.Visited.{lit-slot, slot-small}
 use Rattle.ps_sat.proofs.Reading.{extends-then, extends-same}
@@ -29,14 +29,16 @@ sent-kept v known w w' from to k p = record {
   slots = p.shifted.slots_are ∙ k.slots;
   others = ap length p.others ∙ k.others ∙ ap length (sym p.lits);
   ids = ap length p.ids ∙ k.ids ∙ ap length (sym p.lits);
-  watches = rw (p.lits, p.others, p.ids) k.watches;
+  twos = rw (p.lits, p.others, p.ids) k.twos;
+  watches = rw (p.lits, p.ids) k.watches;
 }
 
-pub sent-placed : (v : ℕ) (known : List Constraint) (w w' : Watches) (f : ℤ) (b : Assignment) → IsKept v known w → IsFiled v w → slot_of f < spare_of v → IsSent w w' (slot_of f) (spare_of v) → IsPlaced v w' f b END
+pub sent-placed : (v : ℕ) (known : List Constraint) (w w' : Watches) (f : ℤ) (b : Assignment) → IsKept v known w → IsFiled v known w → slot_of f < spare_of v → IsSent w w' (slot_of f) (spare_of v) → IsPlaced v known w' f b END
 sent-placed v known w w' f b k filed less p = record {
-  at = λ n h _.
+  at = λ n h live _.
       let h' : n < length w.lits.items = subst (λ (z : List ℤ). n < length z) p.lits h in
-      let own = filed.at n h' in
+      let live' : IsLive known w n = subst (λ (z : List ℕ). Stands known (number_at z n)) p.ids live in
+      let own = filed.at n h' live' in
       let apart : slot_of f ≢ spare_of v = λ e. absurd (omega (arith, e, less)) in
       elim (cases_eq (slot_of (lit_of w n)) (slot_of f)) [
         | inl e ↦ inl (subst (Holds n) (sym (p.shifted.moved apart)) (subst (λ z. Holds n (list_of w z)) e own))
@@ -53,7 +55,7 @@ sent-gone known w w1 t w2 t2 from to f result p g = record {
   nodes = g.nodes ∙ ap length p.lits;
   ids = g.ids ∙ p.ids;
   extends = g.extends;
-  good = record { at = λ a c i j q. g.good.at a c i j (record { at = rw (p.lits, p.others) q.at }) };
+  good = record { at = λ a c i j q. g.good.at a c i j (record { at = rw (p.lits, p.others, p.ids) q.at }) };
   ended = g.ended;
 }
 
@@ -92,16 +94,16 @@ falsified a p l h e = elim (value-set a (place p) (is_positive p) l false e) [
   | inr s ↦ inr (rw (s.0, place-opposite p, same_sign (is_positive l) (is_positive p) (is_positive (neg_ℤ p)) s.1 (sign_opposite p h)) refl)
 ]
 
-pub good-next : (w : Watches) (a c c' : Assignment) (p : ℤ) → 1 ≤ unsigned_abs p → Includes c' c → AreGood w a c → AreVisited w (neg_ℤ p) c' → AreGood w (with_true a p) c'
-good-next w a c c' p h inc g v = record {
-  at = λ n hn e. elim (falsified a p (lit_of w n) h e) [
-    | inl s ↦ inc.at (lit_of w (other_of w n)) true (g.at n hn s)
-    | inr s ↦ v.at n hn s
+pub good-next : (known : List Constraint) (w : Watches) (a c c' : Assignment) (p : ℤ) → 1 ≤ unsigned_abs p → Includes c' c → AreGood known w a c → AreVisited known w (neg_ℤ p) c' → AreGood known w (with_true a p) c'
+good-next known w a c c' p h inc g v = record {
+  at = λ n hn live e. elim (falsified a p (lit_of w n) h e) [
+    | inl s ↦ inc.at (lit_of w (other_of w n)) true (g.at n hn live s)
+    | inr s ↦ v.at n hn live s
   ];
 }
 
-pub good-grows : (w : Watches) (a c c' : Assignment) → Includes c' c → AreGood w a c → AreGood w a c'
-good-grows w a c c' inc g = record { at = λ n h e. inc.at (lit_of w (other_of w n)) true (g.at n h e) }
+pub good-grows : (known : List Constraint) (w : Watches) (a c c' : Assignment) → Includes c' c → AreGood known w a c → AreGood known w a c'
+good-grows known w a c c' inc g = record { at = λ n h live e. inc.at (lit_of w (other_of w n)) true (g.at n h live e) }
 
 -- ---- prefixes of a trail
 pub part-included : (t : Trail) (n : ℕ) → AreFresh t.variables t.entries → n ≤ length t.entries → Includes (values t) (values_to t n)
@@ -136,36 +138,36 @@ pub opposite-within : (t : Trail) (n : ℕ) (f : ℤ) → AreFresh t.variables t
 opposite-within t n f fresh o = rw (o.opposite, place-opposite o.entry.lit) (slot-small (place o.entry.lit) t.variables (is_positive (neg_ℤ o.entry.lit)) (fresh.at n o.entry o.there).within)
 
 -- ---- the loop
-pub followed-first : (known : List Constraint) (w : Watches) (t : Trail) (n : ℕ) → IsKept t.variables known w → IsFiled t.variables w → n ≤ length t.entries → IsGoodUpTo w t n → HasFollowed known w t w t n
-followed-first known w t n k filed h g = record { kept = k; filed = filed; nodes = refl; ids = refl; extends = extends-same (known_of known) t; keeps = good-same w (values t); within = h; good = g }
+pub followed-first : (known : List Constraint) (w : Watches) (t : Trail) (n : ℕ) → IsKept t.variables known w → IsFiled t.variables known w → n ≤ length t.entries → IsGoodUpTo known w t n → HasFollowed known w t w t n
+followed-first known w t n k filed h g = record { kept = k; filed = filed; nodes = refl; ids = refl; extends = extends-same (known_of known) t; keeps = good-same known w (values t); within = h; good = g }
 
-followed-part : (known : List Constraint) (w : Watches) (t : Trail) (w1 : Watches) (t1 : Trail) (w2 : Watches) (t2 : Trail) (n m : ℕ) (f : ℤ) (result : Option ℕ) → HasFollowed known w t w1 t1 n → HasGone known (watched w1 t1) (watched w2 t2) f result → m ≤ length t2.entries → IsGoodUpTo w2 t2 m → HasFollowed known w t w2 t2 m
+followed-part : (known : List Constraint) (w : Watches) (t : Trail) (w1 : Watches) (t1 : Trail) (w2 : Watches) (t2 : Trail) (n m : ℕ) (f : ℤ) (result : Option ℕ) → HasFollowed known w t w1 t1 n → HasGone known (watched w1 t1) (watched w2 t2) f result → m ≤ length t2.entries → IsGoodUpTo known w2 t2 m → HasFollowed known w t w2 t2 m
 followed-part known w t w1 t1 w2 t2 n m f result a g h good = record {
   kept = subst (λ z. IsKept z known w2) a.extends.variables g.kept;
-  filed = subst (λ z. IsFiled z w2) a.extends.variables g.filed;
+  filed = subst (λ z. IsFiled z known w2) a.extends.variables g.filed;
   nodes = g.nodes ∙ a.nodes;
   ids = g.ids ∙ a.ids;
   extends = extends-then (known_of known) t t1 t2 a.extends g.extends;
-  keeps = good-then w w1 w2 (values t) (values t1) a.extends.includes a.keeps g.good;
+  keeps = good-then known w w1 w2 (values t) (values t1) a.extends.includes a.keeps g.good;
   within = h;
   good = good;
 }
 
 -- the values so far are good after the watches of one literal too
-still-good : (known : List Constraint) (w1 : Watches) (t1 : Trail) (w2 : Watches) (t2 : Trail) (n : ℕ) (f : ℤ) (result : Option ℕ) → AreFresh t1.variables t1.entries → n ≤ length t1.entries → IsGoodUpTo w1 t1 n → HasGone known (watched w1 t1) (watched w2 t2) f result → AreGood w2 (values_to t1 n) (values t1)
+still-good : (known : List Constraint) (w1 : Watches) (t1 : Trail) (w2 : Watches) (t2 : Trail) (n : ℕ) (f : ℤ) (result : Option ℕ) → AreFresh t1.variables t1.entries → n ≤ length t1.entries → IsGoodUpTo known w1 t1 n → HasGone known (watched w1 t1) (watched w2 t2) f result → AreGood known w2 (values_to t1 n) (values t1)
 still-good known w1 t1 w2 t2 n f result fresh h good g = g.good.at (values_to t1 n) (values t1) (part-included t1 n fresh h) (includes-refl (values t1)) good
 
 pub followed-stop : (known : List Constraint) (w : Watches) (t : Trail) (w1 : Watches) (t1 : Trail) (w2 : Watches) (t2 : Trail) (n id : ℕ) (f : ℤ) → AreFresh t1.variables t1.entries → HasFollowed known w t w1 t1 n → HasGone known (watched w1 t1) (watched w2 t2) f (Some id) → HasFollowed known w t w2 t2 n
 followed-stop known w t w1 t1 w2 t2 n id f fresh a g =
     followed-part known w t w1 t1 w2 t2 n n f (Some id) a g (part-within known t1 t2 n g.extends a.within)
-    (rw (part-same known t1 t2 n g.extends a.within) (good-grows w2 (values_to t1 n) (values t1) (values t2) g.extends.includes (still-good known w1 t1 w2 t2 n f (Some id) fresh a.within a.good g)))
+    (rw (part-same known t1 t2 n g.extends a.within) (good-grows known w2 (values_to t1 n) (values t1) (values t2) g.extends.includes (still-good known w1 t1 w2 t2 n f (Some id) fresh a.within a.good g)))
 
 pub followed-next : (known : List Constraint) (w : Watches) (t : Trail) (w1 : Watches) (t1 : Trail) (w2 : Watches) (t2 : Trail) (n : ℕ) (f : ℤ) → AreFresh t1.variables t1.entries → HasFollowed known w t w1 t1 n → IsOppositeAt t1 n f → HasGone known (watched w1 t1) (watched w2 t2) f None → HasFollowed known w t w2 t2 (n + 1)
 followed-next known w t w1 t1 w2 t2 n f fresh a o g =
     let less = slice_get_within t1.entries n o.entry o.there in
     let within : n + 1 ≤ length t1.entries = omega (arith, less) in
     let now = still-good known w1 t1 w2 t2 n f None fresh a.within a.good g in
-    let seen : AreVisited w2 (neg_ℤ o.entry.lit) (values t2) = subst (λ z. AreVisited w2 z (values t2)) o.opposite g.ended in
+    let seen : AreVisited known w2 (neg_ℤ o.entry.lit) (values t2) = subst (λ z. AreVisited known w2 z (values t2)) o.opposite g.ended in
     followed-part known w t w1 t1 w2 t2 n (n + 1) f None a g (part-within known t1 t2 (n + 1) g.extends within)
     (rw (part-same known t1 t2 (n + 1) g.extends within, values-more t1.variables t1.entries n o.entry o.there)
-    (good-next w2 (values_to t1 n) (values t1) (values t2) o.entry.lit o.some g.extends.includes now seen))
+    (good-next known w2 (values_to t1 n) (values t1) (values t2) o.entry.lit o.some g.extends.includes now seen))

@@ -36,16 +36,16 @@ level-included t m f l =
     let p = up_to-take m t.entries l in
     subst (λ (es : List TrailEntry). Includes (values t) (values_of t.variables es)) (sym p.1) (any-part t p.0 f)
 
-pub closed-kept : (known : List Constraint) (w : Watches) (t : Trail) (w' : Watches) (t' : Trail) (n : ℕ) → AreFresh t.variables t.entries → AreLevels t.entries → HasFollowed known w t w' t' n → IsClosedBelow w t (level t) → IsClosedBelow w' t' (level t)
+pub closed-kept : (known : List Constraint) (w : Watches) (t : Trail) (w' : Watches) (t' : Trail) (n : ℕ) → AreFresh t.variables t.entries → AreLevels t.entries → HasFollowed known w t w' t' n → IsClosedBelow known w t (level t) → IsClosedBelow known w' t' (level t)
 closed-kept known w t w' t' n f l h c = record {
   at = λ m less.
       let i = level-included t m f l in
-      subst (λ (z : Trail). AreGood w' (values z) (values z)) (sym (h.extends.lower m less)) (h.keeps.at (values (up_to m t)) (values (up_to m t)) i i (c.at m less));
+      subst (λ (z : Trail). AreGood known w' (values z) (values z)) (sym (h.extends.lower m less)) (h.keeps.at (values (up_to m t)) (values (up_to m t)) i i (c.at m less));
 }
 
 -- an earlier part is good where a later one is
-pub good-earlier : (w : Watches) (a b c : Assignment) → Includes b a → AreGood w b c → AreGood w a c
-good-earlier w a b c i g = record { at = λ n h e. g.at n h (i.at _ false e) }
+pub good-earlier : (known : List Constraint) (w : Watches) (a b c : Assignment) → Includes b a → AreGood known w b c → AreGood known w a c
+good-earlier known w a b c i g = record { at = λ n h live e. g.at n h live (i.at _ false e) }
 
 not-lower : (n m k : ℕ) → m ≤ k → nat_le n k ≡ false → nat_le n m ≡ false
 not-lower n m k h e = grind (arith, h, e)
@@ -68,24 +68,24 @@ max-filter (e ∷ es) m k h = elim (cases_Bool (nat_le e.level k)) [
 ]
 
 -- after a cut each level is good
-pub closed-cut : (w : Watches) (t : Trail) (k n : ℕ) → k < level t → IsClosedBelow w t (level t) → IsClosedBelow w (up_to k t) n
-closed-cut w t k n less c = record {
+pub closed-cut : (known : List Constraint) (w : Watches) (t : Trail) (k n : ℕ) → k < level t → IsClosedBelow known w t (level t) → IsClosedBelow known w (up_to k t) n
+closed-cut known w t k n less c = record {
   at = λ m _. elim (cases_lt m k) [
-    | inl lower ↦ subst (λ (es : List TrailEntry). AreGood w (values_of t.variables es) (values_of t.variables es)) (sym (min-filter t.entries m k (omega (arith, lower)))) (c.at m (omega (arith, lower, less)))
-    | inr ge ↦ subst (λ (es : List TrailEntry). AreGood w (values_of t.variables es) (values_of t.variables es)) (sym (max-filter t.entries m k ge)) (c.at k less)
+    | inl lower ↦ subst (λ (es : List TrailEntry). AreGood known w (values_of t.variables es) (values_of t.variables es)) (sym (min-filter t.entries m k (omega (arith, lower)))) (c.at m (omega (arith, lower, less)))
+    | inr ge ↦ subst (λ (es : List TrailEntry). AreGood known w (values_of t.variables es) (values_of t.variables es)) (sym (max-filter t.entries m k ge)) (c.at k less)
   ];
 }
 
-pub good-cut : (w : Watches) (t u : Trail) (k n : ℕ) → u ≡ up_to k t → k < level t → AreFresh u.variables u.entries → IsClosedBelow w t (level t) → IsGoodUpTo w u n
-good-cut w t u k n e less f c = good-earlier w (values_to u n) (values u) (values u) (any-part u n f) (subst (λ (z : Trail). AreGood w (values z) (values z)) (sym e) (c.at k less))
+pub good-cut : (known : List Constraint) (w : Watches) (t u : Trail) (k n : ℕ) → u ≡ up_to k t → k < level t → AreFresh u.variables u.entries → IsClosedBelow known w t (level t) → IsGoodUpTo known w u n
+good-cut known w t u k n e less f c = good-earlier known w (values_to u n) (values u) (values u) (any-part u n f) (subst (λ (z : Trail). AreGood known w (values z) (values z)) (sym e) (c.at k less))
 
 -- where propagation came to its end, the last level is good too
-pub closed-shut : (known : List Constraint) (w : Watches) (t : Trail) (w' : Watches) (t' : Trail) (n : ℕ) → AreFresh t.variables t.entries → AreLevels t.entries → AreLevels t'.entries → HasFollowed known w t w' t' n → n ≡ length t'.entries → IsClosedBelow w t (level t) → IsClosedBelow w' t' (level t + 1)
+pub closed-shut : (known : List Constraint) (w : Watches) (t : Trail) (w' : Watches) (t' : Trail) (n : ℕ) → AreFresh t.variables t.entries → AreLevels t.entries → AreLevels t'.entries → HasFollowed known w t w' t' n → n ≡ length t'.entries → IsClosedBelow known w t (level t) → IsClosedBelow known w' t' (level t + 1)
 closed-shut known w t w' t' n f l l' h e c = record {
   at = λ m less. elim (cases_lt m (level t)) [
     | inl lower ↦ (closed-kept known w t w' t' n f l h c).at m lower
     | inr ge ↦ (let top : level t' ≤ m = omega (arith, h.extends.level_is, ge) in
-        subst (λ (z : Trail). AreGood w' (values z) (values z)) (sym (up_to-all t' m l' top)) (good-whole w' t' n e h.good))
+        subst (λ (z : Trail). AreGood known w' (values z) (values z)) (sym (up_to-all t' m l' top)) (good-whole known w' t' n e h.good))
   ];
 }
 
@@ -93,16 +93,16 @@ closed-shut known w t w' t' n f l l' h e c = record {
 decided-lower : (m : ℕ) (t u : Trail) (l : ℤ) → u ≡ decided l t → m < level t + 1 → up_to m u ≡ up_to m t
 decided-lower m t u l e h = rw e (ap (λ (es : List TrailEntry). record { variables = t.variables; entries = es }) (lower-append m t.entries (record { lit = l; reason = None; level = suc (decisions t.entries) }) (omega (arith, h))))
 
-pub closed-decided : (w : Watches) (t u : Trail) (l : ℤ) → u ≡ decided l t → IsClosedBelow w t (level t + 1) → IsClosedBelow w u (level t + 1)
-closed-decided w t u l e c = record { at = λ m h. subst (λ (z : Trail). AreGood w (values z) (values z)) (sym (decided-lower m t u l e h)) (c.at m h) }
+pub closed-decided : (known : List Constraint) (w : Watches) (t u : Trail) (l : ℤ) → u ≡ decided l t → IsClosedBelow known w t (level t + 1) → IsClosedBelow known w u (level t + 1)
+closed-decided known w t u l e c = record { at = λ m h. subst (λ (z : Trail). AreGood known w (values z) (values z)) (sym (decided-lower m t u l e h)) (c.at m h) }
 
 -- a literal is false at no level below this one
 pub record IsNotFalseBelow (t : Trail) (l : ℤ) (n : ℕ) : Type 0 where
   pub at : (m : ℕ) → m < n → value_of (values (up_to m t)) l ≡ Some false → ⊥
 
 -- two literals that are false at no level below keep the levels below closed when they are watched
-pub closed-watched : (w w' : Watches) (t : Trail) (f s : ℤ) (id n : ℕ) → HasWatched w w' f s id → IsNotFalseBelow t f n → IsNotFalseBelow t s n → IsClosedBelow w t n → IsClosedBelow w' t n
-closed-watched w w' t f s id n h one two c = record {
+pub closed-watched : (known : List Constraint) (w w' : Watches) (t : Trail) (f s : ℤ) (id n : ℕ) → HasWatched known w w' f s id → IsNotFalseBelow t f n → IsNotFalseBelow t s n → IsClosedBelow known w t n → IsClosedBelow known w' t n
+closed-watched known w w' t f s id n h one two c = record {
   at = λ m less. h.good (values (up_to m t)) (values (up_to m t)) (c.at m less) (λ q. absurd (one.at m less q)) (λ q. absurd (two.at m less q));
 }
 

@@ -19,9 +19,15 @@ pub mod Slacks
 pub mod Backward
 pub mod Rooms
 pub mod Keeping
+pub mod Standing
+pub mod Filled
+pub mod Forgotten
+pub mod Unused
 pub mod Stepping
 pub mod Atoms
 pub mod Ends
+pub mod Standers
 pub mod Lessons
 pub mod SearchSteps
 pub mod Handing
+pub mod Deletions

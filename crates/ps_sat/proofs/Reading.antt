@@ -17,11 +17,11 @@ use Rattle.ps_sat.specs.declared.links.TheConstants.{END}
 use Rattle.ps_sat.specs.declared.visiting.Watches.{Watches}
 use Rattle.ps_sat.specs.declared.looking.Shown.{Shown}
 use Rattle.ps_sat.specs.declared.looking.Shown.TheVariants.{Moves, Forces as ForcesOther, Violated}
-use Rattle.ps_sat.specs.Looks.{ShowsAt, IsClauseAt}
-use Rattle.ps_sat.specs.Watches.{slot_of, spare_of, number_at, lit_of, other_of, IsKept, IsPut, IsMoved, IsPlaced, AreReasonsFrom, Extends, KeepsGood}
+use Rattle.ps_sat.specs.Looks.{ShowsAt, IsClauseAt, IsNoClauseAt}
+use Rattle.ps_sat.specs.Watches.{slot_of, spare_of, number_at, lit_of, other_of, Stands, IsLive, IsKept, IsPut, IsMoved, IsPlaced, AreReasonsFrom, Extends, KeepsGood}
 use Rattle.ps_sat.proofs.Reasons.{from_none, from-then, from-one}
 use Rattle.ps_sat.proofs.Linked.{read-at}
-use Rattle.ps_sat.proofs.Visited.{lit-slot, other-clause, new-lit, IsNewLit, put-placed, moved-placed, moved-good}
+use Rattle.ps_sat.proofs.Visited.{lit-slot, other-clause, other-live, degree-stands, not-live, new-lit, IsNewLit, put-placed, moved-placed, moved-good}
 
 -- what was read of a watch
 pub record AreRead (w : Watches) (n : ℕ) (l other : ℤ) (id : ℕ) : Type 0 where
@@ -32,7 +32,7 @@ pub record AreRead (w : Watches) (n : ℕ) (l other : ℤ) (id : ℕ) : Type 0 w
 pub other-small : (v : ℕ) (known : List Constraint) (w : Watches) (n on : ℕ) → IsKept v known w → n < length w.lits.items → on ≡ get_or w.others.items n on → on < length w.lits.items
 other-small v known w n on k h e =
     let q : other_of w n ≡ on = read-at w.others.items n on 0 (rw k.others h) e in
-    subst (λ z. z < length w.lits.items) q (k.watches n h).other_within
+    subst (λ z. z < length w.lits.items) q (k.twos n h).other_within
 
 pub are-read : (v : ℕ) (known : List Constraint) (w : Watches) (n on : ℕ) (l other : ℤ) (id : ℕ) → IsKept v known w → n < length w.lits.items → l ≡ get_or w.lits.items n l → on ≡ get_or w.others.items n on → other ≡ get_or w.lits.items on other → id ≡ get_or w.ids.items n id → AreRead w n l other id
 are-read v known w n on l other id k h el eo ex ei =
@@ -43,8 +43,8 @@ are-read v known w n on l other id k h el eo ex ei =
       id_is = read-at w.ids.items n id 0 (rw k.ids h) ei;
     }
 
-pub read-clause : (v : ℕ) (known : List Constraint) (w : Watches) (n : ℕ) (l other : ℤ) (id : ℕ) → IsKept v known w → n < length w.lits.items → AreRead w n l other id → IsClauseAt (known_of known) id other
-read-clause v known w n l other id k h r = subst (λ z. IsClauseAt (known_of known) z other) r.id_is (subst (λ z. IsClauseAt (known_of known) (number_at w.ids.items n) z) r.other_is (other-clause v known w n k h))
+pub read-clause : (v : ℕ) (known : List Constraint) (w : Watches) (n : ℕ) (l other : ℤ) (id : ℕ) → IsKept v known w → n < length w.lits.items → AreRead w n l other id → Stands known id → IsClauseAt (known_of known) id other
+read-clause v known w n l other id k h r s = subst (λ z. IsClauseAt (known_of known) z other) r.id_is (subst (λ z. IsClauseAt (known_of known) (number_at w.ids.items n) z) r.other_is (other-clause v known w n k h (subst (Stands known) (sym r.id_is) s)))
 
 pub slot-within : (v : ℕ) (known : List Constraint) (w : Watches) (l : ℤ) → IsKept v known w → slot_of l < spare_of v → slot_of l < length w.links.heads.items
 slot-within v known w l k h = rw k.slots (omega (arith, h))
@@ -66,21 +66,22 @@ read-new v known w n l other m id a b k h r e s = new-lit v known w n b m k h (r
 read-false : (w : Watches) (n : ℕ) (l other : ℤ) (id : ℕ) (a b : Assignment) → AreRead w n l other id → a ≡ b → value_of a l ≡ Some false → value_of b (lit_of w n) ≡ Some false
 read-false w n l other id a b r e h = rw (r.lit_is, ← e) h
 
-pub read-good : (v : ℕ) (known : List Constraint) (w w' : Watches) (n : ℕ) (l other m : ℤ) (id : ℕ) (a b : Assignment) → IsKept v known w → n < length w.lits.items → AreRead w n l other id → a ≡ b → ShowsAt (known_of known) id a l other (Moves m) → IsMoved w w' n m → KeepsGood w w' b
+pub read-good : (v : ℕ) (known : List Constraint) (w w' : Watches) (n : ℕ) (l other m : ℤ) (id : ℕ) (a b : Assignment) → IsKept v known w → n < length w.lits.items → AreRead w n l other id → a ≡ b → ShowsAt (known_of known) id a l other (Moves m) → IsMoved w w' n m → KeepsGood known w w' b
 read-good v known w w' n l other m id a b k h r e s p = moved-good v known w w' n b m h p (read-false w n l other id a b r e s.false_is) (read-new v known w n l other m id a b k h r e s)
 
-pub read-placed : (v : ℕ) (known : List Constraint) (w w' : Watches) (n : ℕ) (l other m f : ℤ) (id : ℕ) (a b : Assignment) → IsKept v known w → n < length w.lits.items → AreRead w n l other id → a ≡ b → ShowsAt (known_of known) id a l other (Moves m) → IsMoved w w' n m → value_of b f ≡ Some false → IsPlaced v w f b n → IsPlaced v w' f b END
+pub read-placed : (v : ℕ) (known : List Constraint) (w w' : Watches) (n : ℕ) (l other m f : ℤ) (id : ℕ) (a b : Assignment) → IsKept v known w → n < length w.lits.items → AreRead w n l other id → a ≡ b → ShowsAt (known_of known) id a l other (Moves m) → IsMoved w w' n m → value_of b f ≡ Some false → IsPlaced v known w f b n → IsPlaced v known w' f b END
 read-placed v known w w' n l other m f id a b k h r e s p ff q = moved-placed v known w w' n f b m h p (read-false w n l other id a b r e s.false_is) (read-new v known w n l other m id a b k h r e s) ff (includes-refl b) q
 
-pub stays-placed : (v : ℕ) (w w' : Watches) (n : ℕ) (l other f : ℤ) (id : ℕ) (a b : Assignment) → AreRead w n l other id → a ≡ b → (value_of a l ≡ Some false → value_of a other ≡ Some true) → IsPut w w' n → value_of b f ≡ Some false → IsPlaced v w f b n → IsPlaced v w' f b END
-stays-placed v w w' n l other f id a b r e s p ff q =
-    put-placed v w w' n f b b p (includes-refl b) ff (λ z. rw (r.other_is, ← e) (s (rw e (subst (λ y. value_of b y ≡ Some false) r.lit_is z)))) q
+pub stays-placed : (v : ℕ) (known : List Constraint) (w w' : Watches) (n : ℕ) (l other f : ℤ) (id : ℕ) (a b : Assignment) → AreRead w n l other id → a ≡ b → (value_of a l ≡ Some false → value_of a other ≡ Some true) → IsPut w w' n → value_of b f ≡ Some false → IsPlaced v known w f b n → IsPlaced v known w' f b END
+stays-placed v known w w' n l other f id a b r e s p ff q =
+    put-placed v known w w' n f b b p (includes-refl b) ff (λ z. rw (r.other_is, ← e) (s (rw e (subst (λ y. value_of b y ≡ Some false) r.lit_is z)))) q
 
 -- the other literal is forced
 pub fresh-other : (v : ℕ) (known : List Constraint) (w : Watches) (n : ℕ) (l other : ℤ) (id var : ℕ) (t : Trail) (a : Assignment) → v ≡ t.variables → IsKept v known w → n < length w.lits.items → AreRead w n l other id → a ≡ values t → ShowsAt (known_of known) id a l other ForcesOther → var ≡ unsigned_abs other → 1 ≤ var → IsFresh t.variables (values t) other
 fresh-other v known w n l other id var t a ev k h r e s q one =
-    let x = k.watches n h in
-    let y = k.watches (other_of w n) x.other_within in
+    let x = k.twos n h in
+    let live : IsLive known w n = subst (Stands known) (sym r.id_is) (degree-stands known id s.constraint s.known_at s.degree) in
+    let y = k.watches (other_of w n) x.other_within (other-live v known w n k h live) in
     record {
       some = rw (← q) one;
       within = rw (← ev, ← r.other_is) (term-within v y.clause (lit_of w (other_of w n)) 1 y.inside y.term);
@@ -122,11 +123,15 @@ extends-implied known t u l id e f h = record {
 pub shows-reason : (known : Known) (id : ℕ) (a : Assignment) (l other : ℤ) (t : Trail) → a ≡ values t → ShowsAt known id a l other ForcesOther → IsReason known (values t) other (Some id)
 shows-reason known id a l other t e s = subst (λ z. IsReason known z other (Some id)) e (s.constraint, s.known_at, s.shows)
 
-pub forces-placed : (v : ℕ) (w w' : Watches) (n : ℕ) (l other f : ℤ) (id : ℕ) (t u : Trail) → AreRead w n l other id → u ≡ implied other id t → IsFresh t.variables (values t) other → IsPut w w' n → value_of (values t) f ≡ Some false → IsPlaced v w f (values t) n → IsPlaced v w' f (values u) END
-forces-placed v w w' n l other f id t u r e fresh p ff q =
+pub forces-placed : (v : ℕ) (known : List Constraint) (w w' : Watches) (n : ℕ) (l other f : ℤ) (id : ℕ) (t u : Trail) → AreRead w n l other id → u ≡ implied other id t → IsFresh t.variables (values t) other → IsPut w w' n → value_of (values t) f ≡ Some false → IsPlaced v known w f (values t) n → IsPlaced v known w' f (values u) END
+forces-placed v known w w' n l other f id t u r e fresh p ff q =
     let ev = values-implied t u other id e in
-    put-placed v w w' n f (values t) (values u) p (rw ev (with_true-includes (values t) other fresh.unset)) ff
+    put-placed v known w w' n f (values t) (values u) p (rw ev (with_true-includes (values t) other fresh.unset)) ff
     (λ _. rw (r.other_is, ev) (value-true (values t) other (rw (length-values t.variables t.entries) fresh.within))) q
 
 pub shows-conflict : (known : Known) (id : ℕ) (a : Assignment) (l other : ℤ) (t : Trail) → a ≡ values t → ShowsAt known id a l other Violated → IsConflict known (values t) id
 shows-conflict known id a l other t e s = subst (λ z. IsConflict known z id) e (record { constraint = s.constraint; known_at = s.known_at; violated = s.shows })
+
+-- the clause was forgotten
+pub read-forgotten : (v : ℕ) (known : List Constraint) (w : Watches) (n : ℕ) (l other : ℤ) (id : ℕ) → IsKept v known w → n < length w.lits.items → AreRead w n l other id → IsNoClauseAt (known_of known) id → ¬ IsLive known w n
+read-forgotten v known w n l other id k h r s = not-live v known w n id k h r.id_is s

@@ -1,5 +1,5 @@
 -- What a clause shows at a watched literal.
-use Rattle.std.proofs.Common.{◌≡◌, ◌≢◌, ℕ, ◌<◌, ℤ, Bool, true, false, cond, not, Some, None, List, [], ◌∷◌, length, get_or, refl, sym, ap, subst, ◌∙◌, inl, inr, unsigned_abs}
+use Rattle.std.proofs.Common.{◌≡◌, ◌≢◌, ℕ, ◌<◌, ℤ, pos, Bool, true, false, cond, not, Some, None, List, [], ◌∷◌, length, get_or, refl, sym, ap, subst, ◌∙◌, inl, inr, unsigned_abs}
 use Rattle.std.specs.Ordering.{int_eq}
 use Rattle.std.proofs.lemmas.Bool.{cases_Bool, and_parts, and_from, not_from_false, true≢false}
 use Rattle.std.proofs.lemmas.Bool.Decides.{Decides-int_eq}
@@ -11,7 +11,7 @@ use Rattle.ps_pb.specs.Steps.{Known, constraint_at}
 use Rattle.ps_pb.proofs.Setting.{rising-distinct}
 use Rattle.ps_pb.proofs.Searched.{has_term-at}
 use Rattle.ps_sat.specs.declared.looking.Shown.{Shown}
-use Rattle.ps_sat.specs.declared.looking.Shown.TheVariants.{Stays, Moves, Forces as ForcesOther, Violated}
+use Rattle.ps_sat.specs.declared.looking.Shown.TheVariants.{Stays, Moves, Forces as ForcesOther, Violated, Forgotten}
 use Rattle.ps_sat.specs.Looks.{is_new, some_new, IsNewIn, LooksAt, Looks}
 use Rattle.ps_sat.proofs.Clauses.{IsOnly, forces-only, violated-only}
 
@@ -54,8 +54,9 @@ forced c a other ts p h e n none u = forces-only c a other p (rising-distinct 0 
 pub violated : (c : Constraint) (a : Assignment) (other : ℤ) → IsPlain c → some_new a other c.terms ≡ false → value_of a other ≡ Some false → is_violated c a ≡ true
 violated c a other p none e = violated-only c a other p (only-one c a other none) e
 
-pub shows : (known : Known) (a : Assignment) (l other : ℤ) (id : ℕ) (c : Constraint) (look : Shown) → value_of a l ≡ Some false → constraint_at known id ≡ Some c → LooksAt c a other look → Looks known a l other id look
-shows known a l other id c Stays e k h = λ _. h
-shows known a l other id c (Moves m) e k h = record { false_is = e; constraint = c; known_at = k; shows = h }
-shows known a l other id c ForcesOther e k h = record { false_is = e; constraint = c; known_at = k; shows = h }
-shows known a l other id c Violated e k h = record { false_is = e; constraint = c; known_at = k; shows = h }
+pub shows : (known : Known) (a : Assignment) (l other : ℤ) (id : ℕ) (c : Constraint) (look : Shown) → value_of a l ≡ Some false → constraint_at known id ≡ Some c → c.degree ≡ pos 1 → LooksAt c a other look → Looks known a l other id look
+shows known a l other id c Stays e k d h = λ _. h
+shows known a l other id c (Moves m) e k d h = record { false_is = e; constraint = c; known_at = k; degree = d; shows = h }
+shows known a l other id c ForcesOther e k d h = record { false_is = e; constraint = c; known_at = k; degree = d; shows = h }
+shows known a l other id c Violated e k d h = record { false_is = e; constraint = c; known_at = k; degree = d; shows = h }
+shows known a l other id c Forgotten e k d h = absurd h

@@ -188,18 +188,18 @@ pub record AreAboveFrom (t : Trail) (n m : ℕ) : Type 0 where
   pub at : (i : ℕ) (e : TrailEntry) → slice_get t.entries i ≡ Some e → n ≤ i → m < e.level
 
 -- the same levels are closed where they have the same literals
-pub closed-like : (w : Watches) (s t : Trail) (n : ℕ) → s.variables ≡ t.variables → ((m : ℕ) → m < n → seen_to m (literals_of s.entries) ≡ literals_of (up_to m t).entries) → IsClosedBelow w t n → IsClosedBelow w s n
-closed-like w s t n v e c = record {
+pub closed-like : (known : List Constraint) (w : Watches) (s t : Trail) (n : ℕ) → s.variables ≡ t.variables → ((m : ℕ) → m < n → seen_to m (literals_of s.entries) ≡ literals_of (up_to m t).entries) → IsClosedBelow known w t n → IsClosedBelow known w s n
+closed-like known w s t n v e c = record {
   at = λ m less.
       let same : values (up_to m s) ≡ values (up_to m t) = ap (λ k. values_of k (up_to m s).entries) v ∙ same-values t.variables (up_to m s).entries (up_to m t).entries (literals-to m s.entries ∙ e m less) in
-      subst (λ a. AreGood w a a) (sym same) (c.at m less);
+      subst (λ a. AreGood known w a a) (sym same) (c.at m less);
 }
 
-pub closed-unlike : (w : Watches) (s t : Trail) (n : ℕ) → s.variables ≡ t.variables → ((m : ℕ) → m < n → seen_to m (literals_of s.entries) ≡ literals_of (up_to m t).entries) → IsClosedBelow w s n → IsClosedBelow w t n
-closed-unlike w s t n v e c = record {
+pub closed-unlike : (known : List Constraint) (w : Watches) (s t : Trail) (n : ℕ) → s.variables ≡ t.variables → ((m : ℕ) → m < n → seen_to m (literals_of s.entries) ≡ literals_of (up_to m t).entries) → IsClosedBelow known w s n → IsClosedBelow known w t n
+closed-unlike known w s t n v e c = record {
   at = λ m less.
       let same : values (up_to m s) ≡ values (up_to m t) = ap (λ k. values_of k (up_to m s).entries) v ∙ same-values t.variables (up_to m s).entries (up_to m t).entries (literals-to m s.entries ∙ e m less) in
-      subst (λ a. AreGood w a a) same (c.at m less);
+      subst (λ a. AreGood known w a a) same (c.at m less);
 }
 
 pub whole-lower : (s t : Trail) (m : ℕ) → literals_of s.entries ≡ literals_of t.entries → seen_to m (literals_of s.entries) ≡ literals_of (up_to m t).entries

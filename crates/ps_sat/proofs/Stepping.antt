@@ -7,10 +7,10 @@ use Rattle.ps_sat.specs.Keeping.{Keeping, seen_to, IsInStep, HasSeenAll, HasSeen
 use Rattle.ps_sat.proofs.Sighted.{literals-to}
 
 pub over-same : (k : Keeping) → IsOver k k
-over-same k = record { variables = refl; known = refl; goal = refl }
+over-same k = record { variables = refl; given = refl; known = refl; goal = refl }
 
 pub over-then : (a b c : Keeping) → IsOver a b → IsOver b c → IsOver a c
-over-then a b c h g = record { variables = g.variables ∙ h.variables; known = g.known ∙ h.known; goal = g.goal ∙ h.goal }
+over-then a b c h g = record { variables = g.variables ∙ h.variables; given = g.given ∙ h.given; known = g.known ∙ h.known; goal = g.goal ∙ h.goal }
 
 -- nothing has been seen of a trail without literals
 pub first-step : (k : Keeping) (t : Trail) → k.seen ≡ [] → t.entries ≡ [] → IsInStep k t
@@ -46,3 +46,10 @@ all-lower k t e = record {
   first = (length (literals_of t.entries), e ∙ sym (take-length (literals_of t.entries)));
   lower = λ m less. ap (seen_to m) e ∙ sym (literals-to m t.entries);
 }
+
+-- clauses were forgotten
+pub same-step : (k k' : Keeping) (t : Trail) → k'.seen ≡ k.seen → k'.settled ≡ k.settled → IsInStep k t → IsInStep k' t
+same-step k k' t e q (inl seen) = inl (e ∙ seen)
+same-step k k' t e q (inr h) =
+    let but = h.1 in
+    inr (q ∙ h.0, record { front = but.front; last = but.last; entries = but.entries; decided = but.decided; seen = e ∙ but.seen })

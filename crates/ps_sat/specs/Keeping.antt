@@ -1,6 +1,6 @@
 -- Known constraints, and what has been seen of a trail.
-use Rattle.std.specs.Prelude.{ℕ, ◌≡◌, ◌≤◌, ◌<◌, ◌+◌, ◌-◌, ℤ, Bool, false, IsTrue, Option, Some, None, Result, Ok, Err, ⊤}
-use Rattle.std.specs.Prelude.{List, [], ◌∷◌, ◌++◌, length, take, slice_index_or, nat_le, nat_lt, fold, All, ◌⊎◌}
+use Rattle.std.specs.Prelude.{ℕ, ◌≡◌, ◌≢◌, ◌≤◌, ◌<◌, ◌+◌, ◌-◌, ℤ, pos, Bool, false, IsTrue, Option, Some, None, Result, Ok, Err, ⊤}
+use Rattle.std.specs.Prelude.{List, [], ◌∷◌, ◌++◌, length, take, slice_index_or, slice_set, nat_le, nat_lt, fold, All, ◌⊎◌}
 use Rattle.std.specs.Prelude.{if◌then◌else◌}
 use Rattle.std.specs.List.{filter}
 use Rattle.ps_pb.specs.declared.limits.TheConstants.{MOST_VARIABLES}
@@ -10,15 +10,18 @@ use Rattle.ps_pb.specs.Weights.{IsWithin}
 use Rattle.ps_pb.specs.Steps.{known_of, constraint_at}
 use Rattle.ps_learn.specs.Trails.{Trail, TrailEntry, level, up_to}
 use Rattle.ps_sat.specs.declared.visiting.Watches.{Watches}
-use Rattle.ps_sat.specs.Watches.{IsKept, IsFiled, IsClosedBelow}
+use Rattle.ps_sat.specs.Watches.{nothing, IsKept, IsFiled, IsClosedBelow}
+use Rattle.ps_sat.specs.Standing.{standing}
 use Rattle.ps_sat.specs.Scans.{AreCovered}
 use Rattle.ps_sat.specs.Rooms.{HasRoomForClauses}
 use Rattle.ps_sat.specs.Sights.{Sighting, literals_of}
 
--- known constraints over so many variables, one of them the goal, the literals of a trail that have been seen, each with its
--- level, and whether propagation has come to its end since a constraint was learned
+-- known constraints over so many variables, so many of them given, the last of these the goal, the literals of a trail that have been
+-- seen, each with its level, and whether propagation has come to its end since a constraint was learned. A learned clause that was
+-- forgotten has the constraint that says nothing in its place
 pub record Keeping : Type 0 where
   pub variables : ℕ
+  pub given : ℕ
   pub known : List Constraint
   pub goal : Constraint
   pub seen : List (ℤ × ℕ)
@@ -69,12 +72,14 @@ HasSeen (Some id) k t = HasSeenLower k t
 -- the constraints and the variables are as they were
 pub record IsOver (k k' : Keeping) : Type 0 where
   pub variables : k'.variables ≡ k.variables
+  pub given : k'.given ≡ k.given
   pub known : k'.known ≡ k.known
   pub goal : k'.goal ≡ k.goal
 
 -- a clause was learned
 pub record HasLearned (k k' : Keeping) (c : Constraint) (id : ℕ) : Type 0 where
   pub variables : k'.variables ≡ k.variables
+  pub given : k'.given ≡ k.given
   pub known : k'.known ≡ k.known ++ c ∷ []
   pub goal : k'.goal ≡ k.goal
   pub seen : k'.seen ≡ k.seen
@@ -85,6 +90,30 @@ pub record HasLearned (k k' : Keeping) (c : Constraint) (id : ℕ) : Type 0 wher
 abbrev pub IsLearning : {E : Type 0} → Keeping → Keeping → Constraint → Result ℕ E → Type 0
 IsLearning k k' c (Ok id) = HasLearned k k' c id
 IsLearning k k' c (Err e) = ⊤
+
+-- an id is that of a learned clause that stands
+pub record IsLearnedAt (k : Keeping) (id : ℕ) : Type 0 where
+  pub clause : Constraint
+  pub learned : k.given < id
+  pub stands : constraint_at (standing k.known) id ≡ Some clause
+
+-- the constraint of an id isn't a learned one of degree 1
+abbrev pub IsOtherAt : Keeping → ℕ → Type 0
+IsOtherAt k id = (c : Constraint) → k.given < id → constraint_at (known_of k.known) id ≡ Some c → c.degree ≢ pos 1
+
+-- the constraint of an id stands no longer, and each other one as before
+pub record StandsNoLonger (cs new : List Constraint) (id : ℕ) : Type 0 where
+  pub own : constraint_at (standing new) id ≡ None
+  pub others : (x : ℕ) → x ≢ id → constraint_at (standing new) x ≡ constraint_at (standing cs) x
+
+-- a clause was forgotten: the constraint that says nothing has its place, and all else is as it was
+pub record HasForgotten (k k' : Keeping) (id : ℕ) : Type 0 where
+  pub variables : k'.variables ≡ k.variables
+  pub given : k'.given ≡ k.given
+  pub goal : k'.goal ≡ k.goal
+  pub seen : k'.seen ≡ k.seen
+  pub settled : k'.settled ≡ k.settled
+  pub known : k'.known ≡ slice_set k.known (id - 1) nothing
 
 -- so many numbers from this one down
 pub record AreIdsFrom (n k : ℕ) (ids : List ℕ) : Type 0 where
@@ -110,11 +139,11 @@ pub record IsKeeping (x : Store) (s : Sighting) (goal closed : ℕ) (settled : B
   pub few : s.seen.variables ≤ MOST_VARIABLES
   pub inside : All (IsWithin s.seen.variables) x.known
   pub kept : IsKept s.seen.variables x.known x.watches
-  pub filed : IsFiled s.seen.variables x.watches
+  pub filed : IsFiled s.seen.variables x.known x.watches
   pub covered : AreCovered (known_of x.known) x.watches x.scanned x.waiting goal
   pub room : HasRoomForClauses x.watches (length x.waiting)
   pub places : length x.scanned + length x.waiting ≤ x.capacity
   pub goal_is : constraint_at (known_of x.known) goal ≡ Some s.goal
-  pub good : IsClosedBelow x.watches s.seen closed
+  pub good : IsClosedBelow x.known x.watches s.seen closed
   pub most : level s.seen ≤ closed
   pub whole : IsTrue settled → level s.seen < closed

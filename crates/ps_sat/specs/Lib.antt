@@ -12,6 +12,8 @@ pub mod WatchChoices
 pub mod Linking
 pub mod Rooms
 pub mod Sights
+pub mod Standing
 pub mod Keeping
+pub mod Forgetting
 -- Bridge: what the order of decisions has chosen so far
 pub mod Choices

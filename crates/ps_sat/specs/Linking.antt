@@ -17,10 +17,10 @@ pub record CoversMore (id : ℕ) (w : Watches) (scanned : List ℕ) (w' : Watche
 -- one clause more may be watched: what held of the watches holds of them still
 pub record HasLinked (known : List Constraint) (w : Watches) (t : Trail) (w' : Watches) (t' : Trail) : Type 0 where
   pub kept : IsKept t.variables known w'
-  pub filed : IsFiled t.variables w'
+  pub filed : IsFiled t.variables known w'
   pub extends : Extends (known_of known) t t'
-  pub good : (n : ℕ) → n ≤ length t.entries → IsGoodUpTo w t n → IsGoodUpTo w' t' n
-  pub lower : IsClosedBelow w t (level t) → IsClosedBelow w' t' (level t)
+  pub good : (n : ℕ) → n ≤ length t.entries → IsGoodUpTo known w t n → IsGoodUpTo known w' t' n
+  pub lower : IsClosedBelow known w t (level t) → IsClosedBelow known w' t' (level t)
 
 -- where a literal is unset, the constraint of an id forces it
 abbrev pub IsForcedIfUnset : Known → Assignment → ℤ → ℕ → Type 0

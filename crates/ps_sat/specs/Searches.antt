@@ -1,13 +1,15 @@
 -- What a search answers, and what it hands over.
-use Rattle.std.specs.Prelude.{ℕ, ◌≡◌, ◌≤◌, ◌^◌, ⊤, true, false, Bool, IsTrue, Some}
+use Rattle.std.specs.Prelude.{ℕ, ◌≡◌, ◌≤◌, ◌+◌, ◌*◌, ◌/◌, ◌^◌, ⊤, Bool, IsTrue, Some}
 use Rattle.std.specs.Prelude.{Result, Ok, Err, List, [], ◌∷◌, ◌++◌, length, All, ◌⊎◌}
 use Rattle.ps_pb.specs.Assignments.{full}
 use Rattle.ps_pb.specs.Constraints.{Constraint, IsMet}
-use Rattle.ps_pb.specs.Steps.{Step, AreLawful, is_contradiction}
+use Rattle.ps_pb.specs.Steps.{lits_of, AreLawful}
+use Rattle.ps_pb.specs.declared.step.Step.{Step}
+use Rattle.ps_pb.specs.declared.step.Step.TheVariants.{Clause, Delete, Add, Multiply, Divide, Saturate}
 use Rattle.ps_clause.specs.Forms.{Form, MeetsForm, first_known}
 use Rattle.ps_log.specs.Logs.{Telling, Stays}
 use Rattle.ps_learn.specs.Trails.{IsLit}
-use Rattle.ps_clause.specs.Spent.{AreNew, IsSpentSearch}
+use Rattle.ps_clause.specs.Spent.{AreNew, IsOfSearch, clause_count, deletion_count, IsSpentSearch}
 use Rattle.ps_learn.specs.Hints.{AreRefutedByHints}
 use Rattle.ps_sat.specs.declared.searching.Outcome.{Outcome}
 use Rattle.ps_sat.specs.declared.searching.Outcome.TheVariants.{Found, Refuted, Spent}
@@ -29,38 +31,45 @@ IsOutcomeOfHints f goal (Spent learned) = ¬ AreRefutedByHints f goal
 abbrev pub HoldsGoalAndSteps : Bool → Telling → Constraint → List Step → Type 0
 HoldsGoalAndSteps told new c ss = IsTrue told → IsTrue new.tells × (new.goal ≡ Some c) × (new.steps ≡ Some ss)
 
--- each step has a literal
-abbrev pub HaveLiterals : List Step → Type 0
-HaveLiterals ss = All (λ s. is_contradiction s ≡ false) ss
-
--- so many steps at most, and at most 2 to the number of variables, each with a literal, and none of which includes a clause of
--- the form or an earlier step
-pub record AreLearned (f : Form) (conflicts : ℕ) (ss : List Step) : Type 0 where
-  pub count : length ss ≤ conflicts
-  pub few : length ss ≤ 2 ^ f.variables
-  pub literals : HaveLiterals ss
-  pub new : AreNew f ss
+-- so many clauses at most, and at most 2 to the number of variables, each with a literal, none of which includes a clause of the
+-- form or a step's clause that stands; and deletions of at most half of them, behind which at most 2,000 more than half stand
+pub record AreLearned (f : Form) (goal : Constraint) (conflicts : ℕ) (ss : List Step) : Type 0 where
+  pub kinds : All IsOfSearch ss
+  pub count : clause_count ss ≤ conflicts
+  pub half : 2 * deletion_count ss ≤ clause_count ss
+  pub stand : clause_count ss ≤ deletion_count ss + (clause_count ss / 2 + 2000)
+  pub few : clause_count ss ≤ 2 ^ f.variables
+  pub new : AreNew f (first_known f goal) ss
 
 -- what an outcome says of the steps that were handed over: a refutation ends in its only contradiction, and a search that was
 -- spent is a spent search
 abbrev pub IsShown : Form → Constraint → ℕ → List Step → Outcome → Type 0
-IsShown f goal conflicts ss (Found a) = AreLearned f conflicts ss
+IsShown f goal conflicts ss (Found a) = AreLearned f goal conflicts ss
 IsShown f goal conflicts ss (Refuted last) =
-    (front : List Step) × (s : Step) × (ss ≡ front ++ s ∷ []) × AreLearned f conflicts front × (s.id ≡ last)
-    × (is_contradiction s ≡ true)
+    (front : List Step) × (hints : List ℕ) × (ss ≡ front ++ Clause last [] hints ∷ []) × AreLearned f goal conflicts front
 IsShown f goal conflicts ss (Spent learned) = IsSpentSearch f goal conflicts ss
 
 -- each literal of each step is one of these variables
 abbrev pub AreStepsOf : ℕ → List Step → Type 0
-AreStepsOf variables ss = All (λ s. All (IsLit variables) s.lits) ss
+AreStepsOf variables ss = All (λ s. All (IsLit variables) (lits_of s)) ss
 
--- the steps that were handed over are lawful after the form and the goal, and of the form's variables, and a log that told holds
--- just these
+-- a step is a clause or a deletion
+abbrev pub IsClauseOrDeletion : Step → Type 0
+IsClauseOrDeletion (Clause id lits hints) = ⊤
+IsClauseOrDeletion (Delete id) = ⊤
+IsClauseOrDeletion (Add id left right) = ⊥
+IsClauseOrDeletion (Multiply id of by) = ⊥
+IsClauseOrDeletion (Divide id of by) = ⊥
+IsClauseOrDeletion (Saturate id of) = ⊥
+
+-- the steps that were handed over are clauses and deletions, lawful after the form and the goal, and of the form's variables, and
+-- a log that told holds just these
 pub record Handed (f : Form) (goal : Constraint) (told : Bool) (new : Telling) : Type 0 where
   pub steps : List Step
   pub held : HoldsGoalAndSteps told new goal steps
   pub lawful : AreLawful f.variables (first_known f goal) steps
   pub literals : AreStepsOf f.variables steps
+  pub kinds : All IsClauseOrDeletion steps
 
 -- the steps that were handed over are as an outcome says
 abbrev pub IsHeld : Form → Constraint → ℕ → Bool → Telling → Outcome → Type 0
@@ -68,7 +77,7 @@ IsHeld f goal conflicts told new o = (h : Handed f goal told new) × IsShown f g
 
 -- the steps that were handed over before an error were learned
 abbrev pub HoldsLearned : Form → Constraint → ℕ → Bool → Telling → Type 0
-HoldsLearned f goal conflicts told new = (h : Handed f goal told new) × AreLearned f conflicts h.steps
+HoldsLearned f goal conflicts told new = (h : Handed f goal told new) × AreLearned f goal conflicts h.steps
 
 -- what was handed over is held by a log that told: as the outcome says, or before an error
 abbrev pub HasHanded : Form → Constraint → ℕ → Telling → Telling → Result Outcome SearchError → Type 0

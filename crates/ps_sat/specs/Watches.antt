@@ -34,53 +34,71 @@ other_of w n = number_at w.others.items n
 abbrev pub list_of : Watches → ℕ → List ℕ
 list_of w s = list_at w.links.next.items w.links.heads.items s
 
--- a watch is of a literal of a clause of these variables, and its other one is of another literal of the same clause
-pub record IsWatch (v : ℕ) (known : Known) (lits : List ℤ) (others ids : List ℕ) (n : ℕ) : Type 0 where
+-- the constraint that says nothing: it has the place of a clause that was forgotten
+abbrev pub nothing : Constraint
+nothing = record { terms = []; degree = pos 0 }
+
+-- the constraint of an id wasn't forgotten
+abbrev pub Stands : List Constraint → ℕ → Type 0
+Stands known id = constraint_at (known_of known) id ≢ Some nothing
+
+-- the constraint of a watch wasn't forgotten
+abbrev pub IsLive : List Constraint → Watches → ℕ → Type 0
+IsLive known w n = Stands known (number_at w.ids.items n)
+
+-- a watch is of a literal of a clause of these variables
+pub record IsWatch (v : ℕ) (known : Known) (lits : List ℤ) (ids : List ℕ) (n : ℕ) : Type 0 where
   pub clause : Constraint
   pub known_at : constraint_at known (number_at ids n) ≡ Some clause
   pub plain : IsPlain clause
   pub inside : IsWithin v clause
   pub term : HasTerm (lit_at lits n) 1 clause.terms
+
+-- a watch, also one whose clause was forgotten, is of a literal of these variables, and its other one is of another literal and of
+-- the same clause
+pub record IsOfTwo (v : ℕ) (lits : List ℤ) (others ids : List ℕ) (n : ℕ) : Type 0 where
+  pub slot : slot_of (lit_at lits n) < spare_of v
   pub other_within : number_at others n < length lits
   pub back : number_at others (number_at others n) ≡ n
   pub same : number_at ids (number_at others n) ≡ number_at ids n
   pub differ : lit_at lits n ≢ lit_at lits (number_at others n)
 
--- how watches are kept
+-- how watches are kept: those of clauses that were forgotten may stand in a list, or in none
 pub record IsKept (v : ℕ) (known : List Constraint) (w : Watches) : Type 0 where
   pub linked : AreLinked w.links.next.items w.links.heads.items
   pub nodes : length w.links.next.items ≡ length w.lits.items
   pub slots : length w.links.heads.items ≡ spare_of v + 1
   pub others : length w.others.items ≡ length w.lits.items
   pub ids : length w.ids.items ≡ length w.lits.items
-  pub watches : (n : ℕ) → n < length w.lits.items → IsWatch v (known_of known) w.lits.items w.others.items w.ids.items n
+  pub twos : (n : ℕ) → n < length w.lits.items → IsOfTwo v w.lits.items w.others.items w.ids.items n
+  pub watches : (n : ℕ) → n < length w.lits.items → IsLive known w n → IsWatch v (known_of known) w.lits.items w.ids.items n
 
--- each watch but one stands in the list of its literal, or is on the way
-pub record IsListed (v : ℕ) (w : Watches) (but : ℕ) : Type 0 where
-  pub at : (n : ℕ) → n < length w.lits.items → n ≢ but
+-- each live watch but one stands in the list of its literal, or is on the way
+pub record IsListed (v : ℕ) (known : List Constraint) (w : Watches) (but : ℕ) : Type 0 where
+  pub at : (n : ℕ) → n < length w.lits.items → IsLive known w n → n ≢ but
       → Holds n (list_of w (spare_of v)) ⊎ Holds n (list_of w (slot_of (lit_of w n)))
 
--- each watch but one is on the way, or stands in the list of its literal, and then, if this is the one that is gone through, the
+-- each live watch but one is on the way, or stands in the list of its literal, and then, if this is the one that is gone through, the
 -- other watched literal is true
-pub record IsPlaced (v : ℕ) (w : Watches) (f : ℤ) (b : Assignment) (but : ℕ) : Type 0 where
-  pub at : (n : ℕ) → n < length w.lits.items → n ≢ but
+pub record IsPlaced (v : ℕ) (known : List Constraint) (w : Watches) (f : ℤ) (b : Assignment) (but : ℕ) : Type 0 where
+  pub at : (n : ℕ) → n < length w.lits.items → IsLive known w n → n ≢ but
       → Holds n (list_of w (spare_of v))
       ⊎ (Holds n (list_of w (slot_of (lit_of w n)))
       × (slot_of (lit_of w n) ≡ slot_of f → value_of b (lit_of w (other_of w n)) ≡ Some true))
 
--- no watch is on the way, and each stands in the list of its literal
-pub record IsFiled (v : ℕ) (w : Watches) : Type 0 where
+-- no watch is on the way, and each live one stands in the list of its literal
+pub record IsFiled (v : ℕ) (known : List Constraint) (w : Watches) : Type 0 where
   pub spare : list_of w (spare_of v) ≡ []
-  pub at : (n : ℕ) → n < length w.lits.items → Holds n (list_of w (slot_of (lit_of w n)))
+  pub at : (n : ℕ) → n < length w.lits.items → IsLive known w n → Holds n (list_of w (slot_of (lit_of w n)))
 
--- where a watched literal is false in one assignment, the other one is true in another
-pub record AreGood (w : Watches) (a c : Assignment) : Type 0 where
-  pub at : (n : ℕ) → n < length w.lits.items → value_of a (lit_of w n) ≡ Some false
+-- where the literal of a live watch is false in one assignment, that of the other one is true in another
+pub record AreGood (known : List Constraint) (w : Watches) (a c : Assignment) : Type 0 where
+  pub at : (n : ℕ) → n < length w.lits.items → IsLive known w n → value_of a (lit_of w n) ≡ Some false
       → value_of c (lit_of w (other_of w n)) ≡ Some true
 
 -- that is kept, for assignments that a third one includes
-pub record KeepsGood (w w' : Watches) (b : Assignment) : Type 0 where
-  pub at : (a c : Assignment) → Includes b a → Includes b c → AreGood w a c → AreGood w' a c
+pub record KeepsGood (known : List Constraint) (w w' : Watches) (b : Assignment) : Type 0 where
+  pub at : (a c : Assignment) → Includes b a → Includes b c → AreGood known w a c → AreGood known w' a c
 
 -- a watch was put into the list of its literal
 pub record IsPut (w w' : Watches) (n : ℕ) : Type 0 where
@@ -115,14 +133,14 @@ abbrev pub IsSpareKept : ℕ → Watches → Watches → Type 0
 IsSpareKept v w w' = list_of w' (spare_of v) ≡ list_of w (spare_of v)
 
 -- a visit of the one watch that has no place gives it one
-abbrev pub KeepsPlaced : Watches → Trail → Watches → Trail → ℕ → Type 0
-KeepsPlaced w t w' t' n = (f : ℤ) → value_of (values t) f ≡ Some false → IsPlaced t.variables w f (values t) n
-    → IsPlaced t.variables w' f (values t') END
+abbrev pub KeepsPlaced : List Constraint → Watches → Trail → Watches → Trail → ℕ → Type 0
+KeepsPlaced known w t w' t' n = (f : ℤ) → value_of (values t) f ≡ Some false → IsPlaced t.variables known w f (values t) n
+    → IsPlaced t.variables known w' f (values t') END
 
 -- at each level below this one: where a watched literal is false, the other one is true
-pub record IsClosedBelow (w : Watches) (t : Trail) (n : ℕ) : Type 0 where
-  pub at : (m : ℕ) → m < n → AreGood w (values (up_to m t)) (values (up_to m t))
+pub record IsClosedBelow (known : List Constraint) (w : Watches) (t : Trail) (n : ℕ) : Type 0 where
+  pub at : (m : ℕ) → m < n → AreGood known w (values (up_to m t)) (values (up_to m t))
 
 -- where the watches are good at all levels below the present one, they are good at each level below this one
-abbrev pub StayClosed : Watches → Trail → Watches → Trail → ℕ → Type 0
-StayClosed w t w' t' n = IsClosedBelow w t (level t) → IsClosedBelow w' t' n
+abbrev pub StayClosed : List Constraint → Watches → Trail → Watches → Trail → ℕ → Type 0
+StayClosed known w t w' t' n = IsClosedBelow known w t (level t) → IsClosedBelow known w' t' n

@@ -6,7 +6,7 @@ use Rattle.ps_pb.specs.Weights.{IsPlain, IsWithin}
 use Rattle.ps_pb.specs.Steps.{Known, constraint_at}
 use Rattle.ps_sat.specs.declared.visiting.Watches.{Watches}
 use Rattle.ps_sat.specs.Links.{AreLinked, IsFree}
-use Rattle.ps_sat.specs.Watches.{IsKept, AreGood, list_of}
+use Rattle.ps_sat.specs.Watches.{IsKept, IsFiled, AreGood, list_of}
 
 -- two different literals of a clause
 pub record IsPair (v : ℕ) (known : Known) (first second : ℤ) (id : ℕ) : Type 0 where
@@ -31,11 +31,15 @@ pub record AddsPair (w w' : Watches) (first second : ℤ) (id : ℕ) : Type 0 wh
   pub ids : w'.ids.items ≡ w.ids.items ++ id ∷ id ∷ []
 
 -- where both literals may be watched, all watches are good
-pub record HasWatched (w w' : Watches) (first second : ℤ) (id : ℕ) : Type 0 where
+pub record HasWatched (known : List Constraint) (w w' : Watches) (first second : ℤ) (id : ℕ) : Type 0 where
   pub ids : w'.ids.items ≡ w.ids.items ++ id ∷ id ∷ []
-  pub good : (a c : Assignment) → AreGood w a c → (value_of a first ≡ Some false → value_of c second ≡ Some true)
-      → (value_of a second ≡ Some false → value_of c first ≡ Some true) → AreGood w' a c
+  pub good : (a c : Assignment) → AreGood known w a c → (value_of a first ≡ Some false → value_of c second ≡ Some true)
+      → (value_of a second ≡ Some false → value_of c first ≡ Some true) → AreGood known w' a c
 
 -- the watches are kept, whatever constraints are known
 abbrev pub IsKeptForAny : ℕ → Watches → Type 0
 IsKeptForAny v w = (known : List Constraint) → IsKept v known w
+
+-- the watches are filed, whatever constraints are known
+abbrev pub IsFiledForAny : ℕ → Watches → Type 0
+IsFiledForAny v w = (known : List Constraint) → IsFiled v known w

@@ -25,7 +25,8 @@ pub(crate) enum Choice {
     Unwatched,
 }
 
-fn has_degree_one(c: &Constraint) -> bool
+/// Whether the degree is 1.
+pub(crate) fn has_degree_one(c: &Constraint) -> bool
     ensures { IsTrue result ↔ (c.now.degree ≡ pos 1) }
 {
     c.degree() == 1

@@ -47,10 +47,10 @@ fn go_to(
     ensures room { room_of w.new ≡ room_of w.old }
     ensures spare { IsSpareKept trail.old.variables w.old w.new }
     ensures extends { Extends (known_of known.now) trail.old trail.new }
-    ensures good { KeepsGood w.old w.new (values trail.old) }
-    ensures listed { IsListed trail.old.variables w.old node
-        → IsListed trail.old.variables w.new END }
-    ensures placed { IfNone result (KeepsPlaced w.old trail.old w.new trail.new node) }
+    ensures good { KeepsGood known.now w.old w.new (values trail.old) }
+    ensures listed { IsListed trail.old.variables known.now w.old node
+        → IsListed trail.old.variables known.now w.new END }
+    ensures placed { IfNone result (KeepsPlaced known.now w.old trail.old w.new trail.new node) }
     ensures none { IfNone result (found ≡ None) }
     ensures conflict { IfSome result (IsConflict (known_of known.now) (values trail.new)) }
 {
@@ -67,7 +67,7 @@ fn go_to(
 fn drain(known: &List<Constraint>, w: &mut Watches, trail: &mut Trail, lit: Lit) -> Option<u64>
     requires kept { IsKept trail.old.variables known.now w.old }
     requires false_is { value_of (values trail.old) lit ≡ Some false }
-    requires placed { IsPlaced trail.old.variables w.old lit (values trail.old) END }
+    requires placed { IsPlaced trail.old.variables known.now w.old lit (values trail.old) END }
     ensures gone { HasGone known.now
         (watched w.old trail.old) (watched w.new trail.new) lit result }
     ensures room { room_of w.new ≡ room_of w.old }
@@ -97,7 +97,7 @@ fn send(w: &mut Watches, from: usize, to: usize)
 // Goes through the watches of a literal that is false.
 fn go_through(known: &List<Constraint>, w: &mut Watches, trail: &mut Trail, lit: Lit) -> Option<u64>
     requires kept { IsKept trail.old.variables known.now w.old }
-    requires filed { IsFiled trail.old.variables w.old }
+    requires filed { IsFiled trail.old.variables known.now w.old }
     requires false_is { value_of (values trail.old) lit ≡ Some false }
     requires within { slot_of lit < spare_of trail.old.variables }
     ensures gone { HasGone known.now
@@ -129,9 +129,9 @@ pub(crate) fn follow(
     done: &mut usize,
 ) -> Option<u64>
     requires kept { IsKept trail.old.variables known.now w.old }
-    requires filed { IsFiled trail.old.variables w.old }
+    requires filed { IsFiled trail.old.variables known.now w.old }
     requires done { done.old ≤ length trail.old.entries }
-    requires good { IsGoodUpTo w.old trail.old done.old }
+    requires good { IsGoodUpTo known.now w.old trail.old done.old }
     ensures grows { done.old ≤ done.new }
     ensures followed { HasFollowed known.now w.old trail.old w.new trail.new done.new }
     ensures room { room_of w.new ≡ room_of w.old }

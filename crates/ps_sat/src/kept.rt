@@ -1,18 +1,23 @@
 //! Known constraints, with what propagation has kept of them.
 ghost use Rattle.std.specs.Prelude.{◌≡◌, ◌≤◌, ◌<◌, ◌++◌, ◌∷◌, [], ℕ, take, false, is_none};
-ghost use Rattle.std.specs.Prelude.{length};
+ghost use Rattle.std.specs.Prelude.{length, slice_set};
 ghost use Rattle.std.specs.Prelude.{◌+◌, ◌^◌, if◌then◌else◌};
-ghost use Rattle.std.specs.Prelude.{All, IfOk, OnErr};
+ghost use Rattle.std.specs.Prelude.{All, IfOk, OnErr, IsTrue, Some};
 ghost use Rattle.ps_pb.specs.declared.limits.TheConstants.{MOST_VARIABLES};
 ghost use Rattle.ps_pb.specs.Assignments.{place, AreDifferent};
 ghost use Rattle.ps_pb.specs.Weights.{IsWithin, clause_of};
-ghost use Rattle.ps_pb.specs.Steps.{known_of};
+ghost use Rattle.ps_pb.specs.Steps.{known_of, constraint_at};
+ghost use Rattle.ps_pb.specs.Constraints.{Constraint as ConstraintValue};
 ghost use Rattle.ps_learn.specs.Trails.{values, level, up_to, unset_count};
 ghost use Rattle.ps_learn.specs.Rest.{IsPropagated};
-ghost use Rattle.ps_sat.specs.Watches.{Extends};
+ghost use Rattle.ps_sat.specs.Watches.{nothing, Extends};
 ghost use Rattle.ps_sat.specs.Keeping.{slack_seen, seen_to, IsInStep, HasSeen, IsOver};
-ghost use Rattle.ps_sat.specs.Keeping.{IsLearning, AreIdsFrom, gone_through};
+ghost use Rattle.ps_sat.specs.Keeping.{IsLearning, IsLearnedAt, IsOtherAt, HasForgotten};
+ghost use Rattle.ps_sat.specs.Keeping.{AreIdsFrom};
+ghost use Rattle.ps_sat.specs.Keeping.{StandsNoLonger};
+ghost use Rattle.ps_sat.specs.Keeping.{gone_through};
 
+use crate::choosing::has_degree_one;
 use crate::propagating::propagate;
 use crate::sight::Sight;
 use crate::visiting::Watches;
@@ -20,7 +25,7 @@ use crate::watching::{make_room, no_watches};
 use ps_clause::ClauseForm;
 use ps_io::{List, NoMemory};
 use ps_learn::Trail;
-use ps_pb::{Constraint, Lit, clause};
+use ps_pb::{Constraint, Lit, Terms, clause, constraint_at};
 use std::alloc::Global;
 use std::marker::Model;
 
@@ -51,6 +56,7 @@ impl Model for Kept {
 
     ghost view = { λ k. record {
       variables = k.sight.seen.variables;
+      given = k.goal;
       known = k.known;
       goal = k.sight.goal;
       seen = literals_of k.sight.seen.entries;
@@ -73,6 +79,7 @@ impl Kept {
         ensures variables { IfOk result (λ k. k.variables ≡ base.now.variables) }
         ensures known { IfOk result (λ k. k.known ≡ base.now.clauses ++ goal.now ∷ []) }
         ensures few { IfOk result (λ k. length k.known ≤ 2 ^ 32) }
+        ensures given { IfOk result (λ k. k.given ≡ length k.known) }
         ensures goal { IfOk result (λ k. k.goal ≡ goal.now) }
         ensures seen { IfOk result (λ k. k.seen ≡ []) }
         ensures settled { IfOk result (λ k. k.settled ≡ false) }
@@ -118,6 +125,39 @@ impl Kept {
         self.waiting.push_reserved(id);
         self.settled = false;
         Ok(id)
+    }
+
+    /// Whether an id is that of a learned clause that stands. A learned clause has the degree 1.
+    pub fn is_learned(&self, id: u64) -> bool
+        ensures learned { IsTrue result → IsLearnedAt self.now id }
+        ensures other { result ≡ false → IsOtherAt self.now id }
+    {
+        match constraint_at(&self.known, id) {
+            Some(c) => self.goal < id && has_degree_one(c),
+            None => false,
+        }
+    }
+
+    /// How many literals the constraint of an id has; none where no constraint is known there.
+    pub fn size(&self, id: u64) -> usize
+        ensures { (c : ConstraintValue) → constraint_at (known_of self.now.known) id ≡ Some c
+            → result ≡ length c.terms }
+    {
+        match constraint_at(&self.known, id) {
+            Some(c) => c.terms().len(),
+            None => 0,
+        }
+    }
+
+    /// Forgets a learned clause. It stands no longer: the constraint that says nothing has its place.
+    /// Its watches are left out of the lists when propagation comes to them. It takes no memory.
+    pub fn forget(&mut self, id: u64)
+        requires { IsLearnedAt self.old id }
+        ensures forgotten { HasForgotten self.old self.new id }
+        ensures gone { StandsNoLonger self.old.known self.new.known id }
+    {
+        let known = std::mem::replace(&mut self.known, List::new(self.alloc));
+        self.known = without(self.alloc, known, (id - 1) as usize);
     }
 
     /// Sets forced literals with their reasons. `Some` names a violated constraint; `None` comes
@@ -178,6 +218,16 @@ impl Kept {
     {
         self.sight.slack_now()
     }
+}
+
+// The constraints with the one that says nothing at a place.
+fn without(alloc: Global, known: List<Constraint>, place: usize) -> List<Constraint>
+    requires { place < length known }
+    ensures { result ≡ slice_set known place nothing }
+{
+    let mut items = known.into_vec();
+    items[place] = Constraint::of_normal(Terms::new(alloc), 0);
+    List::from_vec(items)
 }
 
 // The ids of so many clauses. They are linked from the last one of these on, so the first clause

@@ -4,8 +4,10 @@
 mod advancing;
 mod choosing;
 mod error;
+mod forgetting;
 mod going;
 mod kept;
+mod laws;
 mod linking;
 mod links;
 mod looking;
@@ -19,5 +21,6 @@ mod watching;
 
 pub use error::SearchError;
 pub use kept::Kept;
+pub use laws::{forgetting_keeps_trails, forgotten_clauses_say_nothing};
 pub use ps_log::MOST_CONFLICTS;
 pub use searching::{Outcome, search, search_from};

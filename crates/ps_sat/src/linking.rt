@@ -50,7 +50,7 @@ fn link(
 ) -> Option<u64>
     requires inside { All (IsWithin trail.old.variables) known.now }
     requires kept { IsKept trail.old.variables known.now w.old }
-    requires filed { IsFiled trail.old.variables w.old }
+    requires filed { IsFiled trail.old.variables known.now w.old }
     requires room { HasRoomFor w.old (length w.old.lits.items + 2) }
     requires place { length scanned.old.items < vec_capacity scanned.old }
     ensures linked { HasLinked known.now w.old trail.old w.new trail.new }
@@ -94,7 +94,7 @@ pub(crate) fn link_waiting(
 ) -> Option<u64>
     requires inside { All (IsWithin trail.old.variables) known.now }
     requires kept { IsKept trail.old.variables known.now w.old }
-    requires filed { IsFiled trail.old.variables w.old }
+    requires filed { IsFiled trail.old.variables known.now w.old }
     requires room { HasRoomForClauses w.old (length waiting.old.items) }
     requires ids { length scanned.old.items + length waiting.old.items ≤ vec_capacity scanned.old }
     requires covered { AreCovered (known_of known.now) w.old scanned.old.items

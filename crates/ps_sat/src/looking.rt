@@ -4,6 +4,7 @@ ghost use Rattle.ps_pb.specs.Constraints.{HasTerm};
 ghost use Rattle.ps_pb.specs.Weights.{IsPlain};
 ghost use Rattle.ps_pb.specs.Steps.{known_of};
 ghost use Rattle.ps_sat.specs.Looks.{is_new, OpensOther, LooksAt, Looks, IsClauseAt};
+ghost use Rattle.ps_sat.specs.Watches.{Stands};
 
 use ps_io::List;
 use ps_pb::{Assignment, Constraint, Lit, constraint_at};
@@ -19,6 +20,8 @@ pub(crate) enum Shown {
     Forces,
     /// All literals are false.
     Violated,
+    /// The clause was forgotten.
+    Forgotten,
 }
 
 // Whether a literal isn't false and is another one.
@@ -66,13 +69,19 @@ fn look_at(c: &Constraint, a: &Assignment, other: Lit) -> Shown
 
 /// What the clause of an id shows at a watched literal.
 pub(crate) fn look(known: &List<Constraint>, a: &Assignment, lit: Lit, other: Lit, id: u64) -> Shown
-    requires { IsClauseAt (known_of known.now) id other }
+    requires { Stands known.now id → IsClauseAt (known_of known.now) id other }
     ensures { Looks (known_of known.now) a.now lit other id result }
 {
     match a.value_of(lit) {
         Some(false) => match constraint_at(known, id) {
             None => Shown::Stays,
-            Some(c) => look_at(c, a, other),
+            Some(c) => {
+                if c.degree() == 1 {
+                    look_at(c, a, other)
+                } else {
+                    Shown::Forgotten
+                }
+            }
         },
         _ => Shown::Stays,
     }

@@ -48,9 +48,9 @@ fn propagate_watched(
     requires inside { All (IsWithin trail.old.variables) known.now }
     requires covered { AreCovered (known_of known.now) w.old others.now [] goal }
     requires kept { IsKept trail.old.variables known.now w.old }
-    requires filed { IsFiled trail.old.variables w.old }
+    requires filed { IsFiled trail.old.variables known.now w.old }
     requires done { done.old ≤ length trail.old.entries }
-    requires good { IsGoodUpTo w.old trail.old done.old }
+    requires good { IsGoodUpTo known.now w.old trail.old done.old }
     requires goal { constraint_at (known_of known.now) goal ≡ Some sight.old.goal }
     requires seen { IsSeenOf sight.old.seen trail.old }
     ensures followed { HasFollowed known.now w.old trail.old w.new trail.new done.new }
@@ -59,9 +59,9 @@ fn propagate_watched(
     ensures seen { SeesTo sight.old.seen sight.new.seen trail.new done.new }
     ensures ended { IsPropagated (known_of known.now) (values trail.new) result }
     ensures all { IfNone result (done.new ≡ length trail.new.entries) }
-    ensures lower { StayClosed w.old trail.old w.new trail.new (level trail.old) }
+    ensures lower { StayClosed known.now w.old trail.old w.new trail.new (level trail.old) }
     ensures shut { IfNone result
-        (StayClosed w.old trail.old w.new trail.new (level trail.old + 1)) }
+        (StayClosed known.now w.old trail.old w.new trail.new (level trail.old + 1)) }
 {
     // Called for its clauses: each literal is of another variable, and levels rise.
     let _before = trail.entries();
@@ -103,17 +103,17 @@ pub(crate) fn propagate(
     requires covered { AreCovered (known_of known.now) w.old scanned.old.items waiting.old.items
         goal }
     requires kept { IsKept trail.old.variables known.now w.old }
-    requires filed { IsFiled trail.old.variables w.old }
+    requires filed { IsFiled trail.old.variables known.now w.old }
     requires room { HasRoomForClauses w.old (length waiting.old.items) }
     requires ids { length scanned.old.items + length waiting.old.items ≤ vec_capacity scanned.old }
     requires done { done ≤ length trail.old.entries }
-    requires good { IsGoodUpTo w.old trail.old done }
+    requires good { IsGoodUpTo known.now w.old trail.old done }
     requires goal { constraint_at (known_of known.now) goal ≡ Some sight.old.goal }
     requires seen { IsSeenOf sight.old.seen trail.old }
     ensures covered { AreCovered (known_of known.now) w.new scanned.new.items waiting.new.items
         goal }
     ensures kept { IsKept trail.old.variables known.now w.new }
-    ensures filed { IsFiled trail.old.variables w.new }
+    ensures filed { IsFiled trail.old.variables known.now w.new }
     ensures room { HasRoomForClauses w.new (length waiting.new.items) }
     ensures ids { length scanned.new.items + length waiting.new.items ≤ vec_capacity scanned.new }
     ensures extends { Extends (known_of known.now) trail.old trail.new }
@@ -121,9 +121,9 @@ pub(crate) fn propagate(
     ensures seen { SeesTo sight.old.seen sight.new.seen trail.new 0 }
     ensures ended { IsPropagated (known_of known.now) (values trail.new) result }
     ensures all { IfNone result (length sight.new.seen.entries ≡ length trail.new.entries) }
-    ensures lower { StayClosed w.old trail.old w.new trail.new (level trail.old) }
+    ensures lower { StayClosed known.now w.old trail.old w.new trail.new (level trail.old) }
     ensures shut { IfNone result
-        (StayClosed w.old trail.old w.new trail.new (level trail.old + 1)) }
+        (StayClosed known.now w.old trail.old w.new trail.new (level trail.old + 1)) }
 {
     if let Some(id) = link_waiting(known, w, scanned, waiting, goal, trail) {
         return Some(id);

@@ -2,6 +2,7 @@
 ghost use Rattle.std.specs.Prelude.{◌≡◌, ◌≤◌, ◌<◌, ◌^◌, ◌++◌, ◌∷◌, [], length};
 ghost use Rattle.std.specs.Prelude.{IfOk, OnOk, OnErr, IsTrue, IsErrOf};
 ghost use Rattle.ps_pb.specs.Weights.{IsWithin};
+ghost use Rattle.ps_pb.specs.declared.step.Step.TheVariants.{Clause};
 ghost use Rattle.ps_io.specs.Causes.{next_count};
 ghost use Rattle.ps_log.specs.Logs.{Starts, Grows, Stays};
 ghost use Rattle.ps_log.specs.Limits.{IsStepWithin};
@@ -12,13 +13,14 @@ ghost use Rattle.ps_sat.specs.Searches.{HoldsGoalAndSteps};
 
 use crate::advancing::advance;
 use crate::error::SearchError;
+use crate::forgetting::{forget_due, forgotten_now};
 use crate::kept::Kept;
 use crate::order::Order;
 use ps_clause::ClauseForm;
 use ps_io::NoMemory;
-use ps_learn::{Trail, learn};
+use ps_learn::{Learned, Trail, learn};
 use ps_log::{ProofSink, is_goal_within};
-use ps_pb::{Assignment, Constraint, Step};
+use ps_pb::{Assignment, Constraint, Hints, Lits, Step};
 use std::alloc::Global;
 
 /// What a search answers.
@@ -35,15 +37,17 @@ pub enum Outcome {
 /// Looks for a full assignment that meets each clause of the form and the goal, and learns a clause
 /// from each conflict (J. P. Marques-Silva, K. A. Sakallah, "GRASP", 1999). At most `conflicts`
 /// clauses with literals are learned, and at most 2 to the number of variables. Each goes to the log
-/// as a step that is lawful there, and none includes a clause of the form or an earlier one.
+/// as a step that is lawful there, and none includes a clause of the form or a learned one that
+/// stands. At most half of them are deleted again, none while it is a reason, and at most 2,000 more
+/// than half stand.
 ///
 /// What hints alone refute is refuted at every limit. `Spent` comes only where one more clause is
 /// due: after the learned ones no contradiction is lawful, and a clause of opposites of atoms'
 /// literals is.
 ///
 /// After each outcome the log is whole and holds this goal and the steps of this search: after
-/// `Refuted` the last one, and no other, is a contradiction, and after `Spent` they are `conflicts`
-/// steps. The log was begun just once; before an error it may not have been. `LogFault`, and no other
+/// `Refuted` the last one, and no other, is a contradiction, and after `Spent` `conflicts` of them
+/// are clauses. The log was begun just once; before an error it may not have been. `LogFault`, and no other
 /// answer, raises the log's count of faults, by one.
 pub fn search<S: ProofSink>(
     alloc: Global,
@@ -130,6 +134,7 @@ fn learn_all<S: ProofSink>(
     requires goal { IsWithin base.now.variables goal.now }
     requires variables { kept.old.variables ≡ base.now.variables }
     requires known { kept.old.known ≡ base.now.clauses ++ goal.now ∷ [] }
+    requires given { kept.old.given ≡ length kept.old.known }
     requires seen { kept.old.seen ≡ [] }
     requires begun { HoldsGoalAndSteps (S.told log.old).tells (S.told log.old) goal.now [] }
     requires small { length kept.old.known ≤ 2 ^ 32 }
@@ -147,7 +152,9 @@ fn learn_all<S: ProofSink>(
     let mut trail = Trail::new(alloc, base.variables())?;
     // Read for its clauses: the goal is in the form in which constraints are kept.
     let _terms = goal.terms();
+    let mut oldest = 1;
     let mut learned = 0;
+    let mut forgotten = 0;
     'learn: loop {
         let conflict = match advance(base, kept, order, &mut trail) {
             None => return Ok(Outcome::Found(trail.into_values())),
@@ -156,30 +163,38 @@ fn learn_all<S: ProofSink>(
         // Read for its clauses: each literal of a trail is of a variable of its own, and levels rise.
         let _entries = trail.entries();
         let found = learn(alloc, kept.known(), &trail, conflict)?;
-        let last = found.step.lits.as_slice().is_empty();
+        let Learned { id, lits, hints, level, marks } = found;
+        let last = lits.as_slice().is_empty();
         if !last && learned == conflicts {
             return Ok(Outcome::Spent { learned });
         }
         if last {
-            hand_over(&found.step, log)?;
-            return Ok(Outcome::Refuted {
-                last: found.step.id,
-            });
+            hand_over(id, lits, hints, log)?;
+            return Ok(Outcome::Refuted { last: id });
         }
-        order.raise(&found.marks);
+        order.raise(&marks);
         order.keep_values(&trail);
-        kept.learn(found.step.lits.as_slice())?;
-        kept.cut_to(&mut trail, found.level);
-        hand_over(&found.step, log)?;
+        kept.learn(lits.as_slice())?;
+        kept.cut_to(&mut trail, level);
+        hand_over(id, lits, hints, log)?;
         learned += 1;
+        let most = forgotten_now(learned, forgotten);
+        let count = forget_due(kept, &trail, &mut oldest, id, most, log)?;
+        forgotten += count;
     }
 }
 
-// Hands a step over.
-fn hand_over<S: ProofSink>(step: &Step, log: &mut S) -> Result<(), SearchError>
+// Hands a clause over.
+fn hand_over<S: ProofSink>(
+    id: u64,
+    lits: Lits,
+    hints: Hints,
+    log: &mut S,
+) -> Result<(), SearchError>
     requires whole { IsTrue (S.is_whole log.old) }
-    requires within { IsStepWithin step.now }
-    ensures ok { OnOk result (Grows (S.told log.old) (S.told log.new) (step.now ∷ [])) }
+    requires within { IsStepWithin (Clause id lits hints) }
+    ensures ok { OnOk result
+        (Grows (S.told log.old) (S.told log.new) (Clause id lits hints ∷ [])) }
     ensures whole { OnOk result (IsTrue (S.is_whole log.new)) }
     ensures err { OnErr result (Stays (S.told log.old) (S.told log.new)) }
     ensures same_begins { S.begins log.new ≡ S.begins log.old }
@@ -188,6 +203,6 @@ fn hand_over<S: ProofSink>(step: &Step, log: &mut S) -> Result<(), SearchError>
     ensures same_kind { S.takes_memory log.new ≡ S.takes_memory log.old }
     ensures same_references { S.names log.new ≡ S.names log.old }
 {
-    log.step(step)?;
+    log.step(&Step::Clause { id, lits, hints })?;
     Ok(())
 }

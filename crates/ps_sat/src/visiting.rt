@@ -64,7 +64,8 @@ fn move_to(w: &mut Watches, node: u32, lit: Lit)
 }
 
 /// Goes to a watch that stands in no list, moves it or puts it back, and sets the literal that its
-/// clause forces. Some names the clause where it is violated.
+/// clause forces. Some names the clause where it is violated. The watch of a clause that was
+/// forgotten is left out of all lists.
 pub(crate) fn visit(
     known: &List<Constraint>,
     w: &mut Watches,
@@ -80,10 +81,10 @@ pub(crate) fn visit(
     ensures room { room_of w.new ≡ room_of w.old }
     ensures spare { IsSpareKept trail.old.variables w.old w.new }
     ensures extends { Extends (known_of known.now) trail.old trail.new }
-    ensures good { KeepsGood w.old w.new (values trail.old) }
-    ensures listed { IsListed trail.old.variables w.old node
-        → IsListed trail.old.variables w.new END }
-    ensures placed { IfNone result (KeepsPlaced w.old trail.old w.new trail.new node) }
+    ensures good { KeepsGood known.now w.old w.new (values trail.old) }
+    ensures listed { IsListed trail.old.variables known.now w.old node
+        → IsListed trail.old.variables known.now w.new END }
+    ensures placed { IfNone result (KeepsPlaced known.now w.old trail.old w.new trail.new node) }
     ensures conflict { IfSome result (IsConflict (known_of known.now) (values trail.new)) }
 {
     let lit = w.lits[node as usize];
@@ -109,5 +110,6 @@ pub(crate) fn visit(
             put(w, node);
             Some(id)
         }
+        Shown::Forgotten => None,
     }
 }

@@ -7,6 +7,7 @@ ghost use Rattle.ps_sat.specs.Rooms.{room_of, HasRoomFor, HasRoomForClauses, Gro
 ghost use Rattle.ps_sat.specs.Rooms.{IsSameBut};
 ghost use Rattle.ps_sat.specs.Watches.{IsKept, IsFiled};
 ghost use Rattle.ps_sat.specs.Watching.{IsPair, AddsPair, HasWatched, IsKeptForAny};
+ghost use Rattle.ps_sat.specs.Watching.{IsFiledForAny};
 
 use crate::links::{END, Links};
 use crate::visiting::{Watches, put};
@@ -46,13 +47,13 @@ pub(crate) fn watch(
     id: u64,
 )
     requires kept { IsKept variables known.now w.old }
-    requires filed { IsFiled variables w.old }
+    requires filed { IsFiled variables known.now w.old }
     requires few { length w.old.links.next.items + 1 < END }
     requires pair { IsPair variables (known_of known.now) first second id }
     requires room { HasRoomFor w.old (length w.old.lits.items + 2) }
     ensures kept { IsKept variables known.now w.new }
-    ensures filed { IsFiled variables w.new }
-    ensures watched { HasWatched w.old w.new first second id }
+    ensures filed { IsFiled variables known.now w.new }
+    ensures watched { HasWatched known.now w.old w.new first second id }
     ensures nodes { length w.new.lits.items ≡ length w.old.lits.items + 2 }
     ensures room { room_of w.new ≡ room_of w.old }
 {
@@ -66,7 +67,7 @@ pub(crate) fn watch(
 pub(crate) fn no_watches(alloc: Global, variables: u32, clauses: usize) -> Result<Watches, NoMemory>
     requires { clauses ≤ 2 ^ 60 }
     ensures kept { IfOk result (IsKeptForAny variables) }
-    ensures filed { IfOk result (IsFiled variables) }
+    ensures filed { IfOk result (IsFiledForAny variables) }
     ensures none { IfOk result (λ w. w.lits.items ≡ []) }
     ensures room { IfOk result (λ w. HasRoomForClauses w clauses) }
 {

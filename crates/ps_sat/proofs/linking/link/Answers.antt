@@ -30,7 +30,7 @@ pub returns-in-Open-clause-linked : goal.returns-in-Open-clause-linked
 returns-in-Open-clause-linked c =
     let x = c.in-Open.ensures in
     linked-open c.args.known.now c.args.id c.args.w.now c.args.trail.now c.watch.new.w x.0 c.in-Open.first c.in-Open.second c.entries-entries.ensures.fresh c.entries-entries.ensures.levels
-    (subst (λ v. IsKept v c.args.known.now c.watch.new.w) c.variables.ensures c.watch.ensures.kept) (subst (λ v. IsFiled v c.watch.new.w) c.variables.ensures c.watch.ensures.filed) c.watch.ensures.watched x.2
+    (subst (λ v. IsKept v c.args.known.now c.watch.new.w) c.variables.ensures c.watch.ensures.kept) (subst (λ v. IsFiled v c.args.known.now c.watch.new.w) c.variables.ensures c.watch.ensures.filed) c.watch.ensures.watched x.2
 
 pub returns-in-Last-clause-linked : goal.returns-in-Last-clause-linked
 returns-in-Last-clause-linked c =
@@ -38,13 +38,13 @@ returns-in-Last-clause-linked c =
     let v = c.variables-in-Last.ensures ∙ c.set_open.ensures.extends.variables in
     linked-last c.args.known.now c.args.id c.args.w.now c.args.trail.now c.watch-in-Last.new.w c.set_open.new.trail x.0 c.in-Last.first c.in-Last.second c.entries-entries.ensures.fresh c.entries-entries.ensures.levels
     (subst (λ n. 1 ≤ n) c.variable-in-Last.ensures.value c.variable-in-Last.ensures.within.0)
-    (subst (λ n. IsKept n c.args.known.now c.watch-in-Last.new.w) v c.watch-in-Last.ensures.kept) (subst (λ n. IsFiled n c.watch-in-Last.new.w) v c.watch-in-Last.ensures.filed) c.watch-in-Last.ensures.watched x.2 c.set_open.ensures.extends c.set_open.ensures.set
+    (subst (λ n. IsKept n c.args.known.now c.watch-in-Last.new.w) v c.watch-in-Last.ensures.kept) (subst (λ n. IsFiled n c.args.known.now c.watch-in-Last.new.w) v c.watch-in-Last.ensures.filed) c.watch-in-Last.ensures.watched x.2 c.set_open.ensures.extends c.set_open.ensures.set
 
 pub returns-in-Open-clause-covers : goal.returns-in-Open-clause-covers
-returns-in-Open-clause-covers c = more-watched c.args.w.now c.watch.new.w c.args.scanned.now.items c.in-Open.first c.in-Open.second c.args.id c.watch.ensures.watched
+returns-in-Open-clause-covers c = more-watched c.args.known.now c.args.w.now c.watch.new.w c.args.scanned.now.items c.in-Open.first c.in-Open.second c.args.id c.watch.ensures.watched
 
 pub returns-in-Last-clause-covers : goal.returns-in-Last-clause-covers
-returns-in-Last-clause-covers c = more-watched c.args.w.now c.watch-in-Last.new.w c.args.scanned.now.items c.in-Last.first c.in-Last.second c.args.id c.watch-in-Last.ensures.watched
+returns-in-Last-clause-covers c = more-watched c.args.known.now c.args.w.now c.watch-in-Last.new.w c.args.scanned.now.items c.in-Last.first c.in-Last.second c.args.id c.watch-in-Last.ensures.watched
 
 pub returns-then-len-gt-MOST_WATCHES-clause-linked : goal.returns-then-len-gt-MOST_WATCHES-clause-linked
 returns-then-len-gt-MOST_WATCHES-clause-linked c = linked-same c.args.known.now c.args.w.now c.args.trail.now c.requires.kept c.requires.filed

@@ -52,7 +52,7 @@ set-preserved c =
       grows = omega (arith, c.set.invariant.grows, c.see_to-in-set.ensures.seen.grows);
       followed =
           followed-then c.args.known.now c.args.w.now c.args.trail.now c.follow.new.w c.follow.new.trail c.follow.new.w c.imply.new.self c.follow.new.done c.follow.new.done all
-          (followed-implied c.args.known.now c.follow.new.w c.follow.new.trail c.imply.new.self c.follow.new.done (subst (λ z. IsKept z c.args.known.now c.follow.new.w) (sym all.extends.variables) all.kept) (subst (λ z. IsFiled z c.follow.new.w) (sym all.extends.variables) all.filed) all.within all.good more);
+          (followed-implied c.args.known.now c.follow.new.w c.follow.new.trail c.imply.new.self c.follow.new.done (subst (λ z. IsKept z c.args.known.now c.follow.new.w) (sym all.extends.variables) all.kept) (subst (λ z. IsFiled z c.args.known.now c.follow.new.w) (sym all.extends.variables) all.filed) all.within all.good more);
     }
 
 pub returns-in-Some-clause-lower : goal.returns-in-Some-clause-lower

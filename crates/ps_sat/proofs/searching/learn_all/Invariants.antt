@@ -1,13 +1,15 @@
 use Rattle.std.proofs.Common.{◌≡◌, ◌≤◌, ◌+◌, ◌-◌, ◌^◌, length}
 use Rattle.std.specs.Prelude.{IsTrue}
+use Rattle.ps_clause.specs.Forms.{first_known}
 use Rattle.ps_sat.specs.Keeping.{IsInStep}
 use Rattle.ps_sat.proofs.SearchSteps.{Searching}
 use Rattle.ps_sat.proofs.searching.learn_all.Given as goal
 
 abbrev pub invariant-learn : goal.invariant-learn
 invariant-learn g l = record {
-  so_far : Searching l.base l.goal (g.S.ProofSink.told l.fn.log).tells (g.S.ProofSink.told l.log) l.kept.known l.trail l.learned;
+  so_far : Searching l.base l.goal (g.S.ProofSink.told l.fn.log).tells (g.S.ProofSink.told l.log) l.kept.known l.trail l.learned l.forgotten;
   kept : l.kept.variables ≡ l.base.variables;
+  given : l.kept.given ≡ length (first_known l.base l.goal);
   in_step : IsInStep l.kept l.trail;
   few : length l.kept.known ≤ 2 ^ 32 + l.learned;
   least : l.learned ≤ l.conflicts;

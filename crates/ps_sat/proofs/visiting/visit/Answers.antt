@@ -1,8 +1,8 @@
 use Rattle.std.proofs.Common.{arith, refl}
 use Rattle.ps_pb.specs.Steps.{known_of}
 use Rattle.ps_learn.specs.Trails.{values}
-use Rattle.ps_sat.proofs.Visited.{put-spare, moved-kept, moved-spare}
-use Rattle.ps_sat.proofs.Reading.{are-read, other-small, read-clause, read-new, read-good, read-placed, stays-placed, slot-within, own-within, fresh-other, extends-same, extends-implied, shows-reason, forces-placed}
+use Rattle.ps_sat.proofs.Visited.{put-spare, moved-kept, moved-spare, left-listed, left-placed}
+use Rattle.ps_sat.proofs.Reading.{are-read, other-small, read-clause, read-new, read-good, read-placed, stays-placed, slot-within, own-within, fresh-other, read-forgotten, extends-same, extends-implied, shows-reason, forces-placed}
 use Rattle.ps_sat.proofs.visiting.visit.Goals as goal
 
 pub index-requires-2 : goal.index-requires-2
@@ -14,7 +14,7 @@ pub look-requires : goal.look-requires
 look-requires c =
     let w = c.args.w.now in
     let r = are-read c.args.trail.now.variables c.args.known.now w c.args.node c.index.result.now c.index-lit.result.now c.index-2.result.now c.index-id.result.now c.requires.kept c.requires.node c.index-lit.ensures c.index.ensures c.index-2.ensures c.index-id.ensures in
-    read-clause c.args.trail.now.variables c.args.known.now w c.args.node c.index-lit.result.now c.index-2.result.now c.index-id.result.now c.requires.kept c.requires.node r
+    λ stands. read-clause c.args.trail.now.variables c.args.known.now w c.args.node c.index-lit.result.now c.index-2.result.now c.index-id.result.now c.requires.kept c.requires.node r stands
 
 pub move_to-requires-clause-within : goal.move_to-requires-clause-within
 move_to-requires-clause-within c =
@@ -74,7 +74,7 @@ pub returns-in-Stays-clause-placed : goal.returns-in-Stays-clause-placed
 returns-in-Stays-clause-placed c =
     let w = c.args.w.now in
     let r = are-read c.args.trail.now.variables c.args.known.now w c.args.node c.index.result.now c.index-lit.result.now c.index-2.result.now c.index-id.result.now c.requires.kept c.requires.node c.index-lit.ensures c.index.ensures c.index-2.ensures c.index-id.ensures in
-    λ f ff q. stays-placed c.args.trail.now.variables w c.put.new.w c.args.node c.index-lit.result.now c.index-2.result.now f c.index-id.result.now c.values.result.now (values c.args.trail.now) r c.values.ensures.value c.in-Stays.ensures c.put.ensures.put ff q
+    λ f ff q. stays-placed c.args.trail.now.variables c.args.known.now w c.put.new.w c.args.node c.index-lit.result.now c.index-2.result.now f c.index-id.result.now c.values.result.now (values c.args.trail.now) r c.values.ensures.value c.in-Stays.ensures c.put.ensures.put ff q
 
 pub returns-in-Forces-clause-extends : goal.returns-in-Forces-clause-extends
 returns-in-Forces-clause-extends c =
@@ -88,7 +88,7 @@ returns-in-Forces-clause-placed c =
     let w = c.args.w.now in
     let r = are-read c.args.trail.now.variables c.args.known.now w c.args.node c.index.result.now c.index-lit.result.now c.index-2.result.now c.index-id.result.now c.requires.kept c.requires.node c.index-lit.ensures c.index.ensures c.index-2.ensures c.index-id.ensures in
     let fresh = fresh-other c.args.trail.now.variables c.args.known.now w c.args.node c.index-lit.result.now c.index-2.result.now c.index-id.result.now c.variable-variable.result c.args.trail.now c.values.result.now refl c.requires.kept c.requires.node r c.values.ensures.value c.in-Forces.ensures c.variable-variable.ensures.value c.variable-variable.ensures.within.0 in
-    λ f ff q. forces-placed c.args.trail.now.variables w c.put-in-Forces.new.w c.args.node c.index-lit.result.now c.index-2.result.now f c.index-id.result.now c.args.trail.now c.imply.new.self r c.imply.ensures fresh c.put-in-Forces.ensures.put ff q
+    λ f ff q. forces-placed c.args.trail.now.variables c.args.known.now w c.put-in-Forces.new.w c.args.node c.index-lit.result.now c.index-2.result.now f c.index-id.result.now c.args.trail.now c.imply.new.self r c.imply.ensures fresh c.put-in-Forces.ensures.put ff q
 
 pub returns-in-Moves-clause-extends : goal.returns-in-Moves-clause-extends
 returns-in-Moves-clause-extends c = extends-same (known_of c.args.known.now) c.args.trail.now
@@ -98,3 +98,17 @@ returns-in-Stays-clause-extends c = extends-same (known_of c.args.known.now) c.a
 
 pub returns-in-Violated-clause-extends : goal.returns-in-Violated-clause-extends
 returns-in-Violated-clause-extends c = extends-same (known_of c.args.known.now) c.args.trail.now
+
+pub returns-in-Forgotten-clause-listed : goal.returns-in-Forgotten-clause-listed
+returns-in-Forgotten-clause-listed c =
+    let w = c.args.w.now in
+    let r = are-read c.args.trail.now.variables c.args.known.now w c.args.node c.index.result.now c.index-lit.result.now c.index-2.result.now c.index-id.result.now c.requires.kept c.requires.node c.index-lit.ensures c.index.ensures c.index-2.ensures c.index-id.ensures in
+    let dead = read-forgotten c.args.trail.now.variables c.args.known.now w c.args.node c.index-lit.result.now c.index-2.result.now c.index-id.result.now c.requires.kept c.requires.node r c.in-Forgotten.ensures in
+    left-listed c.args.trail.now.variables c.args.known.now w c.args.node dead
+
+pub returns-in-Forgotten-clause-placed : goal.returns-in-Forgotten-clause-placed
+returns-in-Forgotten-clause-placed c =
+    let w = c.args.w.now in
+    let r = are-read c.args.trail.now.variables c.args.known.now w c.args.node c.index.result.now c.index-lit.result.now c.index-2.result.now c.index-id.result.now c.requires.kept c.requires.node c.index-lit.ensures c.index.ensures c.index-2.ensures c.index-id.ensures in
+    let dead = read-forgotten c.args.trail.now.variables c.args.known.now w c.args.node c.index-lit.result.now c.index-2.result.now c.index-id.result.now c.requires.kept c.requires.node r c.in-Forgotten.ensures in
+    λ f ff q. left-placed c.args.trail.now.variables c.args.known.now w c.args.node f (values c.args.trail.now) dead q

@@ -9,4 +9,4 @@ returns-clause-kept c =
     λ known. empty-kept c.args.variables known _ c.in_ok-with_capacity.ensures.items h c.in_ok-with_capacity-2.ensures.items c.in_ok-with_capacity-3.ensures.items c.in_ok-with_capacity-4.ensures.items
 
 pub returns-clause-filed : goal.returns-clause-filed
-returns-clause-filed c = empty-filed c.args.variables _ c.in_ok-with_capacity.ensures.items c.in_ok-with_capacity-2.ensures.items
+returns-clause-filed c = λ known. empty-filed c.args.variables known _ c.in_ok-with_capacity.ensures.items c.in_ok-with_capacity-2.ensures.items

@@ -25,3 +25,17 @@ invariant_of-self-2 c =
     keeping-learned s.known c.push.new.self _ c.make_room.new.w c.reserve.new.self.items c.reserve-2.new.self.items c.push_reserved.new.self.items (vec_capacity c.reserve.new.self) s.sight s.goal s.closed c.len-id.result s.settled k c.in_ok-push.ensures.ok c.push_reserved.ensures.items c.len-id.ensures within
     (subst (HasRoomForClauses c.make_room.new.w) (omega (arith, size, old)) c.in_ok-make_room.ensures.ok)
     (omega (arith, c.in_ok-reserve.ensures.ok, c.reserve.new.self.ok.0, size, old))
+
+pub invariant_of-self-in_err-reserve : goal.invariant_of-self-in_err-reserve
+invariant_of-self-in_err-reserve c =
+    let s = c.self.inside in
+    subst (λ xs. IsKeeping s.known c.make_room.new.w xs s.waiting.items (vec_capacity c.reserve.new.self) s.sight s.goal s.closed s.settled) (sym c.in_err-reserve.ensures.items)
+    (keeping-room s.known s.w c.make_room.new.w s.scanned.items s.waiting.items (vec_capacity s.scanned) (vec_capacity c.reserve.new.self) s.sight s.goal s.closed s.settled c.self.invariant c.in_ok-make_room.ensures.same c.in_ok-make_room.ensures.grows c.in_err-reserve.ensures.capacity)
+
+pub invariant_of-self-in_err-push : goal.invariant_of-self-in_err-push
+invariant_of-self-in_err-push c =
+    let s = c.self.inside in
+    let roomy = keeping-room s.known s.w c.make_room.new.w s.scanned.items s.waiting.items (vec_capacity s.scanned) (vec_capacity c.reserve.new.self) s.sight s.goal s.closed s.settled c.self.invariant c.in_ok-make_room.ensures.same c.in_ok-make_room.ensures.grows c.in_ok-reserve.ensures.capacity in
+    subst (λ cs. IsKeeping cs c.make_room.new.w c.reserve.new.self.items c.reserve-2.new.self.items (vec_capacity c.reserve.new.self) s.sight s.goal s.closed s.settled) (sym c.in_err-push.ensures.err)
+    (subst (λ xs. IsKeeping s.known c.make_room.new.w xs c.reserve-2.new.self.items (vec_capacity c.reserve.new.self) s.sight s.goal s.closed s.settled) (sym c.in_ok-reserve.ensures.items)
+    (subst (λ xs. IsKeeping s.known c.make_room.new.w s.scanned.items xs (vec_capacity c.reserve.new.self) s.sight s.goal s.closed s.settled) (sym c.in_ok-reserve-2.ensures.items) roomy))

@@ -20,5 +20,5 @@ invariant_of-result c =
     (subst (λ n. All (IsWithin n) base.clauses) (sym c.variables-2.ensures.value) c.variables-2.ensures.inside) (subst (λ n. IsWithin n c.args.goal.now) (sym c.variables-2.ensures.value) c.requires)
     c.in_ok-ids_to.ensures
     (subst (λ n. IsKept n c.push.new.self c.in_ok-no_watches.field-0) same (c.in_ok-no_watches.ensures.kept c.push.new.self))
-    (subst (λ n. IsFiled n c.in_ok-no_watches.field-0) same c.in_ok-no_watches.ensures.filed)
+    (subst (λ n. IsFiled n c.push.new.self c.in_ok-no_watches.field-0) same (c.in_ok-no_watches.ensures.filed c.push.new.self))
     c.in_ok-no_watches.ensures.room c.in_ok-with_capacity.ensures.capacity (c.len-clauses.result + 1) (omega arith))

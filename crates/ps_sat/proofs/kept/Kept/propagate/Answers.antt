@@ -13,8 +13,8 @@ propagate-found-requires-clause-good c =
     let t = c.args.trail.now in
     let l : AreLevels s.sight.seen.entries = subst (λ (z : Trail). AreLevels z.entries) c.trail.ensures c.entries-seen.ensures.levels in
     let v : s.sight.seen.variables ≡ t.variables = ap (λ (z : Keeping). z.variables) c.self.view_is ∙ sym c.requires.variables in
-    let b = begins-step s.w s.sight.seen t s.closed s.settled c.args.self.now l c.entries-set.ensures.levels v (sym (ap (λ (z : Keeping). z.seen) c.self.view_is)) (sym (ap (λ (z : Keeping). z.settled) c.self.view_is)) c.requires.in_step c.self.invariant.good c.self.invariant.most c.self.invariant.whole in
-    start-good s.w s.sight.seen t s.closed c.first_unseen-done.result c.first_unseen-done.ensures l c.entries-set.ensures.fresh b.seen c.self.invariant.good
+    let b = begins-step s.known s.w s.sight.seen t s.closed s.settled c.args.self.now l c.entries-set.ensures.levels v (sym (ap (λ (z : Keeping). z.seen) c.self.view_is)) (sym (ap (λ (z : Keeping). z.settled) c.self.view_is)) c.requires.in_step c.self.invariant.good c.self.invariant.most c.self.invariant.whole in
+    start-good s.known s.w s.sight.seen t s.closed c.first_unseen-done.result c.first_unseen-done.ensures l c.entries-set.ensures.fresh b.seen c.self.invariant.good
 
 pub propagate-found-requires-clause-seen : goal.propagate-found-requires-clause-seen
 propagate-found-requires-clause-seen c =
@@ -22,7 +22,7 @@ propagate-found-requires-clause-seen c =
     let t = c.args.trail.now in
     let l : AreLevels s.sight.seen.entries = subst (λ (z : Trail). AreLevels z.entries) c.trail.ensures c.entries-seen.ensures.levels in
     let v : s.sight.seen.variables ≡ t.variables = ap (λ (z : Keeping). z.variables) c.self.view_is ∙ sym c.requires.variables in
-    let b = begins-step s.w s.sight.seen t s.closed s.settled c.args.self.now l c.entries-set.ensures.levels v (sym (ap (λ (z : Keeping). z.seen) c.self.view_is)) (sym (ap (λ (z : Keeping). z.settled) c.self.view_is)) c.requires.in_step c.self.invariant.good c.self.invariant.most c.self.invariant.whole in
+    let b = begins-step s.known s.w s.sight.seen t s.closed s.settled c.args.self.now l c.entries-set.ensures.levels v (sym (ap (λ (z : Keeping). z.seen) c.self.view_is)) (sym (ap (λ (z : Keeping). z.settled) c.self.view_is)) c.requires.in_step c.self.invariant.good c.self.invariant.most c.self.invariant.whole in
     b.seen
 
 pub propagate-found-requires-clause-done : goal.propagate-found-requires-clause-done
@@ -31,7 +31,7 @@ propagate-found-requires-clause-done c =
     let t = c.args.trail.now in
     let l : AreLevels s.sight.seen.entries = subst (λ (z : Trail). AreLevels z.entries) c.trail.ensures c.entries-seen.ensures.levels in
     let v : s.sight.seen.variables ≡ t.variables = ap (λ (z : Keeping). z.variables) c.self.view_is ∙ sym c.requires.variables in
-    let b = begins-step s.w s.sight.seen t s.closed s.settled c.args.self.now l c.entries-set.ensures.levels v (sym (ap (λ (z : Keeping). z.seen) c.self.view_is)) (sym (ap (λ (z : Keeping). z.settled) c.self.view_is)) c.requires.in_step c.self.invariant.good c.self.invariant.most c.self.invariant.whole in
+    let b = begins-step s.known s.w s.sight.seen t s.closed s.settled c.args.self.now l c.entries-set.ensures.levels v (sym (ap (λ (z : Keeping). z.seen) c.self.view_is)) (sym (ap (λ (z : Keeping). z.settled) c.self.view_is)) c.requires.in_step c.self.invariant.good c.self.invariant.most c.self.invariant.whole in
     start-within s.sight.seen t s.closed c.first_unseen-done.result c.first_unseen-done.ensures b.seen
 
 pub closed_after-self-inside-requires : goal.closed_after-self-inside-requires
@@ -47,7 +47,7 @@ invariant_of-self c =
     let t = c.args.trail.now in
     let l : AreLevels s.sight.seen.entries = subst (λ (z : Trail). AreLevels z.entries) c.trail.ensures c.entries-seen.ensures.levels in
     let v : s.sight.seen.variables ≡ t.variables = ap (λ (z : Keeping). z.variables) c.self.view_is ∙ sym c.requires.variables in
-    let b = begins-step s.w s.sight.seen t s.closed s.settled c.args.self.now l c.entries-set.ensures.levels v (sym (ap (λ (z : Keeping). z.seen) c.self.view_is)) (sym (ap (λ (z : Keeping). z.settled) c.self.view_is)) c.requires.in_step c.self.invariant.good c.self.invariant.most c.self.invariant.whole in
+    let b = begins-step s.known s.w s.sight.seen t s.closed s.settled c.args.self.now l c.entries-set.ensures.levels v (sym (ap (λ (z : Keeping). z.seen) c.self.view_is)) (sym (ap (λ (z : Keeping). z.settled) c.self.view_is)) c.requires.in_step c.self.invariant.good c.self.invariant.most c.self.invariant.whole in
     let p = c.propagate-found.ensures in
     let s' = c.propagate-found.new.sight in
     let t' = c.propagate-found.new.trail in
@@ -68,6 +68,6 @@ returns-clause-seen c =
     let t = c.args.trail.now in
     let l : AreLevels s.sight.seen.entries = subst (λ (z : Trail). AreLevels z.entries) c.trail.ensures c.entries-seen.ensures.levels in
     let v : s.sight.seen.variables ≡ t.variables = ap (λ (z : Keeping). z.variables) c.self.view_is ∙ sym c.requires.variables in
-    let b = begins-step s.w s.sight.seen t s.closed s.settled c.args.self.now l c.entries-set.ensures.levels v (sym (ap (λ (z : Keeping). z.seen) c.self.view_is)) (sym (ap (λ (z : Keeping). z.settled) c.self.view_is)) c.requires.in_step c.self.invariant.good c.self.invariant.most c.self.invariant.whole in
+    let b = begins-step s.known s.w s.sight.seen t s.closed s.settled c.args.self.now l c.entries-set.ensures.levels v (sym (ap (λ (z : Keeping). z.seen) c.self.view_is)) (sym (ap (λ (z : Keeping). z.settled) c.self.view_is)) c.requires.in_step c.self.invariant.good c.self.invariant.most c.self.invariant.whole in
     let p = c.propagate-found.ensures in
-    has-seen _ s.sight.seen c.propagate-found.new.sight.seen t c.propagate-found.new.trail c.propagate-found.result (known_of s.known) s.w refl b c.entries-set_now.ensures.levels p.seen p.extends p.all
+    has-seen _ s.sight.seen c.propagate-found.new.sight.seen t c.propagate-found.new.trail c.propagate-found.result (known_of s.known) s.known s.w refl b c.entries-set_now.ensures.levels p.seen p.extends p.all
