@@ -5,7 +5,8 @@ use Rattle.std.specs.Str.{bytes_eq}
 use Rattle.std.specs.Str.Parse.{digits_value, AllDigits}
 use Rattle.std.specs.Char.{digit_value}
 use Rattle.ps_meaning.specs.Formula.{World}
-use Rattle.ps_pb.specs.Steps.{Step}
+use Rattle.ps_pb.specs.declared.step.Step.{Step}
+use Rattle.ps_pb.specs.declared.step.Step.TheVariants.{Clause, Delete, Add, Multiply, Divide, Saturate}
 use Rattle.ps_pb.specs.Constraints.{Constraint}
 use Rattle.ps_pb.specs.Weights.{weighted}
 use Rattle.ps_table.specs.declared.col.Col.{Col}
@@ -18,10 +19,11 @@ use Rattle.ps_table.specs.declared.place.TableCol.{TableCol}
 use Rattle.ps_table.specs.declared.place.TableCol.TheVariants as shown
 use Rattle.ps_log.specs.Spellings.{Spells, SpellAll}
 use Rattle.ps_log.specs.Spellings.{words_of}
-use Rattle.ps_log.specs.Texts.{step_numbers, goal_numbers}
+use Rattle.ps_log.specs.Texts.{letter_of, numbers_of, goal_numbers}
 use Rattle.ps_log.specs.Told.{number_of, step_of, goal_of}
 use Rattle.ps_log.proofs.Spelled.{value_of_spelling, spelled-values}
-use Rattle.ps_log.proofs.LineShapes.{text-step, text-goal}
+use Rattle.ps_log.proofs.LineShapes.{text-goal}
+use Rattle.ps_log.proofs.StepsTold.{text-step}
 use Rattle.ps_answer.specs.declared.item.Ratio.{Ratio}
 use Rattle.ps_answer.specs.declared.item.LineItem.{LineItem}
 use Rattle.ps_answer.specs.declared.item.LineItem.TheVariants as line
@@ -131,7 +133,7 @@ numbers_spelled (w ∷ ws) [] s = absurd s
 numbers_spelled (w ∷ ws) (z ∷ zs) s = (s.0, numbers_spelled ws zs s.1)
 
 abbrev pub step_in : Option Step → Step
-step_in None = record { id = 0; lits = []; hints = [] }
+step_in None = Delete 0
 step_in (Some s) = s
 
 abbrev pub goal_in : Option Constraint → Constraint
@@ -289,6 +291,11 @@ item_in text w ws = under (
     ∷ (codes "dual", line.DualHead (number_of (at ws 0)) (number_of (at ws 1)) (size_of (at ws 2)))
     ∷ (codes "y", line.Rows (map number_of ws))
     ∷ (codes "s", line.StepLine (step_in (step_of text)))
+    ∷ (codes "d", line.StepLine (step_in (step_of text)))
+    ∷ (codes "a", line.StepLine (step_in (step_of text)))
+    ∷ (codes "m", line.StepLine (step_in (step_of text)))
+    ∷ (codes "v", line.StepLine (step_in (step_of text)))
+    ∷ (codes "u", line.StepLine (step_in (step_of text)))
     ∷ (codes "g", line.GoalLine (goal_in (goal_of text)))
     ∷ (codes "t", line.TraceHead (size_of (at ws 0)))
     ∷ (codes "p", line.PivotLine (column_in (at ws 0)) (size_of (at ws 1)))
@@ -300,9 +307,9 @@ item_in text w ws = under (
     ∷ (codes "upper", side_in true ws)
     ∷ []) line.End w
 
-step_is : (text : List ℕ) (ws : List (List ℕ)) (s : Step) → words_of text ≡ (115 ∷ []) ∷ ws → SpellWords ws (map Number (step_numbers s.id s.lits s.hints)) → IsTold (line.StepLine s)
+step_is : (text : List ℕ) (ws : List (List ℕ)) (s : Step) → words_of text ≡ (letter_of s ∷ []) ∷ ws → SpellWords ws (map Number (numbers_of s)) → IsTold (line.StepLine s)
     → step_in (step_of text) ≡ s
-step_is text ws s e h p = ap step_in (text-step text s (record { spellings = ws; words = e; spelled = numbers_spelled ws (step_numbers s.id s.lits s.hints) h; nonzero = p }))
+step_is text ws s e h p = ap step_in (text-step text s (record { spellings = ws; words = e; spelled = numbers_spelled ws (numbers_of s) h; canonical = p }))
 
 goal_is : (text : List ℕ) (ws : List (List ℕ)) (g : Constraint) → words_of text ≡ (103 ∷ []) ∷ ws → SpellWords ws (map Number (goal_numbers g.degree (weighted g.terms))) → IsTold (line.GoalLine g)
     → goal_in (goal_of text) ≡ g
@@ -345,7 +352,12 @@ item_is text w (a ∷ b ∷ c ∷ ws) (line.DualHead top head n) e s p =
     ∙ ap (λ x. line.DualHead top x (size_of c)) (value_of_spelling b head s.1.1.0)
     ∙ ap (line.DualHead top head) (size_is c n s.1.1.1.0)
 item_is text w ws (line.Rows rows) e s p = ap (λ x. item_in text x ws) s.0 ∙ ap line.Rows (spelled-values ws rows (numbers_spelled ws rows s.1))
-item_is text w ws (line.StepLine t) e s p = ap (λ x. item_in text x ws) s.0 ∙ ap line.StepLine (step_is text ws t (e ∙ ap (λ x. x ∷ ws) s.0) s.1 p)
+item_is text w ws (line.StepLine (Clause i ls hs)) e s p = ap (λ x. item_in text x ws) s.0 ∙ ap line.StepLine (step_is text ws (Clause i ls hs) (e ∙ ap (λ x. x ∷ ws) s.0) s.1 p)
+item_is text w ws (line.StepLine (Delete i)) e s p = ap (λ x. item_in text x ws) s.0 ∙ ap line.StepLine (step_is text ws (Delete i) (e ∙ ap (λ x. x ∷ ws) s.0) s.1 p)
+item_is text w ws (line.StepLine (Add i j k)) e s p = ap (λ x. item_in text x ws) s.0 ∙ ap line.StepLine (step_is text ws (Add i j k) (e ∙ ap (λ x. x ∷ ws) s.0) s.1 p)
+item_is text w ws (line.StepLine (Multiply i j k)) e s p = ap (λ x. item_in text x ws) s.0 ∙ ap line.StepLine (step_is text ws (Multiply i j k) (e ∙ ap (λ x. x ∷ ws) s.0) s.1 p)
+item_is text w ws (line.StepLine (Divide i j k)) e s p = ap (λ x. item_in text x ws) s.0 ∙ ap line.StepLine (step_is text ws (Divide i j k) (e ∙ ap (λ x. x ∷ ws) s.0) s.1 p)
+item_is text w ws (line.StepLine (Saturate i j)) e s p = ap (λ x. item_in text x ws) s.0 ∙ ap line.StepLine (step_is text ws (Saturate i j) (e ∙ ap (λ x. x ∷ ws) s.0) s.1 p)
 item_is text w ws (line.GoalLine g) e s p = ap (λ x. item_in text x ws) s.0 ∙ ap line.GoalLine (goal_is text ws g (e ∙ ap (λ x. x ∷ ws) s.0) s.1 p)
 item_is text w (a ∷ ws) (line.TraceHead n) e s p = ap (λ x. item_in text x (a ∷ ws)) s.0 ∙ ap line.TraceHead (size_is a n s.1.0)
 item_is text w (a ∷ b ∷ ws) (line.PivotLine enter leave) e s p =

@@ -16,6 +16,7 @@ use Rattle.ps_answer.specs.Items.{IsLine, IsSpelled, IsWithin, IsProper, item_wo
 use Rattle.ps_answer.specs.Answers.{answer_items}
 use Rattle.ps_answer.specs.declared.part.Part.{Part}
 use Rattle.ps_answer.specs.declared.part.Part.TheVariants.{AReport, AVerdict, AModel, AnEntry, ADual, SomeRows, AStep, AGoal, ACause, ATrace, AnEvent, AnAnswer, ASide, AQuery}
+use Rattle.ps_pb.specs.declared.step.Step.TheVariants.{Clause, Delete, Add, Multiply, Divide, Saturate}
 use Rattle.ps_answer.specs.ExpectedParts.{first_words, behind, at_start, due_behind, and_then}
 use Rattle.ps_answer.specs.Faults.{AreLines, AreSpelled, BeginWith, IsText, IsReport, first_of, is_begun, IsFault, IsFirstFault}
 use Rattle.ps_answer.proofs.Cuts.{one_cut_at, no_cut_at}
@@ -58,7 +59,12 @@ opening_due AModel (line.ModelHead t n) due next e = refl
 opening_due AnEntry (line.Entry w v) due next e = refl
 opening_due ADual (line.DualHead t h n) due next e = refl
 opening_due SomeRows (line.Rows rs) due next e = refl
-opening_due AStep (line.StepLine s) due next e = refl
+opening_due AStep (line.StepLine (Clause i ls hs)) due next e = refl
+opening_due AStep (line.StepLine (Delete i)) due next e = refl
+opening_due AStep (line.StepLine (Add i j k)) due next e = refl
+opening_due AStep (line.StepLine (Multiply i j k)) due next e = refl
+opening_due AStep (line.StepLine (Divide i j k)) due next e = refl
+opening_due AStep (line.StepLine (Saturate i j)) due next e = refl
 opening_due AGoal (line.GoalLine g) due next e = refl
 opening_due ACause (line.OpenPivots n) due next e = refl
 opening_due ACause (line.OpenConflicts n) due next e = refl

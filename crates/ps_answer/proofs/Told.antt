@@ -1,6 +1,6 @@
 -- An answer is told by what its lines say.
 use Rattle.std.proofs.Common.{◌≡◌, ℕ, suc, ◌≤◌, ◌<◌, Bool, true, false, List, [], ◌∷◌, ◌++◌, length, map, refl, sym, ap, ◌∙◌, append_assoc, arith, ◌⊎◌, inl, inr}
-use Rattle.ps_pb.specs.Steps.{Step}
+use Rattle.ps_pb.specs.declared.step.Step.{Step}
 use Rattle.ps_meaning.specs.Rational.{Rational, rational_path}
 use Rattle.ps_table.specs.declared.event.Event.{Event}
 use Rattle.ps_table.specs.declared.event.Event.TheVariants.{Pivot, Priced}

@@ -11,7 +11,9 @@ use Rattle.ps_table.specs.declared.place.Place.{Place}
 use Rattle.ps_table.specs.declared.place.Place.TheVariants as place
 use Rattle.ps_table.specs.declared.place.TableCol.{TableCol}
 use Rattle.ps_table.specs.declared.place.TableCol.TheVariants as shown
-use Rattle.ps_log.specs.Texts.{step_numbers, goal_numbers}
+use Rattle.ps_log.specs.Texts.{letter_of, numbers_of, goal_numbers}
+use Rattle.ps_pb.specs.declared.step.Step.{Step}
+use Rattle.ps_pb.specs.declared.step.Step.TheVariants.{Clause, Delete, Add, Multiply, Divide, Saturate}
 use Rattle.ps_log.proofs.Reading.{Small, step_small, goal_small}
 use Rattle.ps_log.proofs.StepShapes.{first_in, rest_in}
 use Rattle.ps_answer.specs.declared.item.Ratio.{Ratio}
@@ -95,7 +97,7 @@ short_within (line.ModelHead t n) w = (tt, (number_small t w.0, (up_to_small n 1
 short_within (line.Entry t v) w = (tt, (number_small t w.0, (tt, tt)))
 short_within (line.DualHead t h n) w = (tt, (number_small t w.0, (number_small h w.1, (up_to_small n (2 ^ 41) w.2 (omega arith), tt))))
 short_within (line.Rows rs) w = (tt, (rows_small rs w.0))
-short_within (line.StepLine s) w = (tt, (numbers_small (step_numbers s.id s.lits s.hints) (step_small s w)))
+short_within (line.StepLine s) w = (tt, (numbers_small (numbers_of s) (step_small s w)))
 short_within (line.GoalLine g) w = (tt, (numbers_small (goal_numbers g.degree (weighted g.terms)) (goal_small g w)))
 short_within (line.TraceHead n) w = (tt, (up_to_small n 2000001 w (omega arith), tt))
 short_within (line.PivotLine c n) w = (tt, (col_small c w.0, (row_small n w.1, tt)))
@@ -162,6 +164,14 @@ both : (l : List ℕ) (ws : List Word) → (0 < length l) × (no_space l ≡ tru
     → SpellWords (words_of (joined (Letters l ∷ ws))) (Letters l ∷ ws) × IsOneLine (joined (Letters l ∷ ws))
 both l ws n c h = written_both l ws n (small_words ws c h)
 
+letter_clean : (s : Step) → (0 < length (letter_of s ∷ [])) × (no_space (letter_of s ∷ []) ≡ true)
+letter_clean (Clause i ls hs) = (omega arith, refl)
+letter_clean (Delete i) = (omega arith, refl)
+letter_clean (Add i j k) = (omega arith, refl)
+letter_clean (Multiply i j k) = (omega arith, refl)
+letter_clean (Divide i j k) = (omega arith, refl)
+letter_clean (Saturate i j) = (omega arith, refl)
+
 -- the words of the line that is written of an item with such numbers, and that it is one line
 short_words : (i : LineItem) → HasShortNumbers i → SpellWords (words_of (item_line i)) (item_words i) × IsOneLine (item_line i)
 short_words line.Report h = both (codes "report") (count 1 ∷ []) (omega arith, refl) (tt, tt) h.1
@@ -174,7 +184,7 @@ short_words (line.ModelHead t n) h = both (codes "model") (Number t ∷ count n 
 short_words (line.Entry t v) h = both (codes "w") (Number t ∷ Truths v ∷ []) (omega arith, refl) (tt, (tt, tt)) h.1
 short_words (line.DualHead t h n) s = both (codes "dual") (Number t ∷ Number h ∷ count n ∷ []) (omega arith, refl) (tt, (tt, (tt, tt))) s.1
 short_words (line.Rows rs) h = both (codes "y") (map Number rs) (omega arith, refl) (numbers_clean rs) h.1
-short_words (line.StepLine s) h = both (codes "s") (map Number (step_numbers s.id s.lits s.hints)) (omega arith, refl) (numbers_clean (step_numbers s.id s.lits s.hints)) h.1
+short_words (line.StepLine s) h = both (letter_of s ∷ []) (map Number (numbers_of s)) (letter_clean s) (numbers_clean (numbers_of s)) h.1
 short_words (line.GoalLine g) h = both (codes "g") (map Number (goal_numbers g.degree (weighted g.terms))) (omega arith, refl) (numbers_clean (goal_numbers g.degree (weighted g.terms))) h.1
 short_words (line.TraceHead n) h = both (codes "t") (count n ∷ []) (omega arith, refl) (tt, tt) h.1
 short_words (line.PivotLine c n) h = both (codes "p") (Column c ∷ count n ∷ []) (omega arith, refl) (tt, (tt, tt)) h.1

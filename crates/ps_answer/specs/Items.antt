@@ -14,7 +14,8 @@ use Rattle.ps_table.specs.declared.place.Place.TheVariants as place
 use Rattle.ps_table.specs.declared.place.TableCol.{TableCol}
 use Rattle.ps_table.specs.declared.place.TableCol.TheVariants as shown
 use Rattle.ps_meaning.specs.declared.limits.TheConstants.{PRINTED_LIMIT}
-use Rattle.ps_log.specs.Texts.{step_numbers, goal_numbers}
+use Rattle.ps_log.specs.Texts.{letter_of, numbers_of, goal_numbers}
+use Rattle.ps_log.specs.StepTexts.{IsCanonical}
 use Rattle.ps_log.specs.Limits.{IsStepWithin, IsGoalWithin}
 use Rattle.ps_log.specs.Spellings.{words_of}
 use Rattle.ps_answer.specs.declared.limits.TheConstants.{MOST_PIVOTS, MOST_OPERAND, MOST_ROW, MOST_WORLD, MOST_ENTRIES}
@@ -80,7 +81,7 @@ item_words (ModelHead total n) = Letters (codes "model") ∷ Number total ∷ co
 item_words (Entry weight world) = Letters (codes "w") ∷ Number weight ∷ Truths world ∷ []
 item_words (DualHead top head n) = Letters (codes "dual") ∷ Number top ∷ Number head ∷ count n ∷ []
 item_words (Rows rows) = Letters (codes "y") ∷ map Number rows
-item_words (StepLine s) = Letters (codes "s") ∷ map Number (step_numbers s.id s.lits s.hints)
+item_words (StepLine s) = Letters (letter_of s ∷ []) ∷ map Number (numbers_of s)
 item_words (GoalLine g) = Letters (codes "g") ∷ map Number (goal_numbers g.degree (weighted g.terms))
 item_words (TraceHead n) = Letters (codes "t") ∷ count n ∷ []
 item_words (PivotLine enter leave) = Letters (codes "p") ∷ Column enter ∷ count leave ∷ []
@@ -101,9 +102,10 @@ item_line i = joined (item_words i)
 abbrev pub IsReducedWithin : ℕ → Ratio → Type 0
 IsReducedWithin limit q = (1 ≤ q.under) × (unsigned_abs q.over ≤ limit → q.under ≤ limit → IsGcd (unsigned_abs q.over) q.under 1)
 
--- literals aren't 0, coefficients are at least 1, and variables rise: so a line's numbers tell a step and a goal
+-- literals aren't 0, no factor is negative, coefficients are at least 1, and variables rise: so a line's numbers tell a step and a
+-- goal
 abbrev pub IsTold : LineItem → Type 0
-IsTold (StepLine s) = All (λ l. 1 ≤ unsigned_abs l) s.lits
+IsTold (StepLine s) = IsCanonical s
 IsTold (GoalLine g) = All (λ t. 1 ≤ t.1) g.terms × (are_rising 0 (weighted g.terms) ≡ true)
 IsTold i = ⊤
 

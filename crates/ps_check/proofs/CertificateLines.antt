@@ -4,8 +4,9 @@ use Rattle.std.proofs.lemmas.List.{append-nil}
 use Rattle.ps_problem.specs.Problems.{Parts}
 use Rattle.ps_table.specs.declared.event.Event.{Event}
 use Rattle.ps_pb.specs.declared.refused.StepRefused.{StepRefused as Why}
-use Rattle.ps_pb.specs.Steps.{Step, id_of, refusal_of, with_step, is_contradiction, ends_in_contradiction, or_later, first_refusal}
-use Rattle.ps_pbcheck.specs.Checked.{Checked, after_step}
+use Rattle.ps_pb.specs.Steps.{Known, number_of, with_step, is_contradiction, ends_in_contradiction, or_later, first_refusal_after}
+use Rattle.ps_pb.specs.declared.step.Step.{Step}
+use Rattle.ps_pbcheck.specs.Checked.{Checked, after_step, refusal_by}
 use Rattle.ps_answer.specs.declared.answer.Weighted.{Weighted}
 use Rattle.ps_answer.specs.declared.answer.Model.{Model}
 use Rattle.ps_answer.specs.declared.answer.Dual.{Dual}
@@ -18,6 +19,7 @@ use Rattle.ps_claims.specs.declared.reason.Reason.{Reason}
 use Rattle.ps_claims.specs.declared.reason.Reason.TheVariants.{WrongShape, TooManyWorlds, WeightZero, WorldTwice, TotalWrong, BoundMissed, EvidenceZero, ValueMissed, HeadWrong, MultiplierSign, StepRefused, NotRefuted}
 use Rattle.ps_claims.specs.Claims.{Assertion, Modelled, Excluded, Bounded}
 use Rattle.ps_valid.specs.Judged.{FindsReason}
+use Rattle.ps_valid.specs.DualTests.{first_refused_by}
 use Rattle.ps_check.specs.declared.subject.Subject.{Subject}
 use Rattle.ps_check.specs.Subjects.{claim_on, asserted, without_steps, checker_for}
 use Rattle.ps_check.specs.LaterSteps.{stepless, steps_of, HasDual, HasWeightsNotBelow0, reason_by, with_steps_find}
@@ -67,31 +69,31 @@ failed_stays : (claim : Claim) (r : Reason) (ss : List Step) → steps_more (Fai
 failed_stays claim r [] = refl
 failed_stays claim r (s ∷ ss) = failed_stays claim r ss
 
--- whether the last step has no literals, or before them the one that was taken last
-abbrev ends_behind : Bool → List Step → Bool
-ends_behind b [] = b
-ends_behind b (s ∷ ss) = ends_in_contradiction (s ∷ ss)
+-- whether the last step adds a contradiction, or before them the one that was taken last
+abbrev ends_behind : Known → Bool → List Step → Bool
+ends_behind known b [] = b
+ends_behind known b (s ∷ ss) = ends_in_contradiction known (s ∷ ss)
 
-ends_next : (b : Bool) (s : Step) (ss : List Step) → ends_behind (is_contradiction s) ss ≡ ends_behind b (s ∷ ss)
-ends_next b s [] = refl
-ends_next b s (t ∷ ss) = refl
+ends_next : (known : Known) (b : Bool) (s : Step) (ss : List Step) → ends_behind (with_step known s) (is_contradiction known s) ss ≡ ends_behind known b (s ∷ ss)
+ends_next known b s [] = refl
+ends_next known b s (t ∷ ss) = refl
 
-ends_all : (ss : List Step) → ends_behind false ss ≡ ends_in_contradiction ss
-ends_all [] = refl
-ends_all (s ∷ ss) = refl
+ends_all : (known : Known) (ss : List Step) → ends_behind known false ss ≡ ends_in_contradiction known ss
+ends_all known [] = refl
+ends_all known (s ∷ ss) = refl
 
 abbrev StepsEnd : Parts → Subject → List Step → Checked → Progress → Progress → Type 0
-StepsEnd p subject ss c g h = HasConcluded p (steps_more (Refuting subject c) ss) g h → HasEnded (claim_on subject) (reason_by (first_refusal c.variables c.known ss) (ends_behind c.refuted ss)) g h
+StepsEnd p subject ss c g h = HasConcluded p (steps_more (Refuting subject c) ss) g h → HasEnded (claim_on subject) (reason_by (first_refused_by c ss) (ends_behind c.known c.refuted ss)) g h
 
 -- steps that are taken one after another say what they say together
 steps_end : (p : Parts) (subject : Subject) (ss : List Step) (c : Checked) (g h : Progress) → StepsEnd p subject ss c g h
 steps_end p subject [] c g h t = t
-steps_end p subject (s ∷ ss) c g h t = by (steps_end p subject ss (after_step c s) g h) (refusal_of c.variables c.known s) t
+steps_end p subject (s ∷ ss) c g h t = by (steps_end p subject ss (after_step c s) g h) (refusal_by c s) t
   where
     by : StepsEnd p subject ss (after_step c s) g h → (o : Option Why) → HasConcluded p (steps_more (step_judged subject c s o) ss) g h
-        → HasEnded (claim_on subject) (reason_by (or_later (id_of s) o (first_refusal c.variables (with_step c.known s) ss)) (ends_behind c.refuted (s ∷ ss))) g h
-    by later None t = subst (λ (b : Bool). HasEnded (claim_on subject) (reason_by (first_refusal c.variables (with_step c.known s) ss) b) g h) (ends_next c.refuted s ss) (later t)
-    by later (Some why) t = subst (λ (x : Stage). HasConcluded p x g h) (failed_stays (claim_on subject) (StepRefused (id_of s) why) ss) t
+        → HasEnded (claim_on subject) (reason_by (or_later (number_of c.known s) o (first_refusal_after c.variables c.given (with_step c.known s) ss)) (ends_behind c.known c.refuted (s ∷ ss))) g h
+    by later None t = subst (λ (b : Bool). HasEnded (claim_on subject) (reason_by (first_refusal_after c.variables c.given (with_step c.known s) ss) b) g h) (ends_next c.known c.refuted s ss) (later t)
+    by later (Some why) t = subst (λ (x : Stage). HasConcluded p x g h) (failed_stays (claim_on subject) (StepRefused (number_of c.known s) why) ss) t
 
 -- ---- a dual
 checker_same : (p : Parts) (c : Assertion) → checker_for p (stepless c) ≡ checker_for p c
@@ -111,7 +113,7 @@ found_ends p subject c None g h some t = absurd (some refl)
 found_ends p subject c (Some NotRefuted) g h some t =
     let first = checker_for p c in
     let at = subst (λ (k : Checked). HasConcluded p (steps_more (Refuting subject k) (steps_of c)) g h) (checker_same p c) t in
-    subst (λ (b : Bool). HasEnded (claim_on subject) (reason_by (first_refusal first.variables first.known (steps_of c)) b) g h) (ends_all (steps_of c)) (steps_end p subject (steps_of c) first g h at)
+    subst (λ (b : Bool). HasEnded (claim_on subject) (reason_by (first_refused_by first (steps_of c)) b) g h) (ends_all first.known (steps_of c)) (steps_end p subject (steps_of c) first g h at)
 found_ends p subject c (Some WrongShape) g h some t = failed_ends p subject WrongShape (steps_of c) g h t
 found_ends p subject c (Some TooManyWorlds) g h some t = failed_ends p subject TooManyWorlds (steps_of c) g h t
 found_ends p subject c (Some (WeightZero n)) g h some t = failed_ends p subject (WeightZero n) (steps_of c) g h t

@@ -49,12 +49,12 @@ module _ (p : Parts) (known : Known) (d : Dual) where
   IsFoundBy value (Some r) = IsFirstFault p known value d r
 
   -- where all but the steps is right, the steps decide
-  steps_decide : (value : Option Rational) (o : Option (ℕ × Why)) (b : Bool) → first_refusal (length p.nodes) known d.steps ≡ o → ends_in_contradiction d.steps ≡ b
+  steps_decide : (value : Option Rational) (o : Option (ℕ × Why)) (b : Bool) → first_refusal (length p.nodes) known d.steps ≡ o → ends_in_contradiction known d.steps ≡ b
       → HasHead value d → HaveSigns (problem_rows p) d.rows → IsFoundBy value (reason_by o b)
   steps_decide value (Some refused) b e f head signs = (head, signs, e)
   steps_decide value None true e f head signs =
-      record { head = head; signs = signs; steps = record { lawful = none-lawful (length p.nodes) known d.steps e; contradiction = f } }
-  steps_decide value None false e f head signs = (head, signs, none-lawful (length p.nodes) known d.steps e, f)
+      record { head = head; signs = signs; steps = record { lawful = none-lawful (length p.nodes) (length known) known d.steps e; contradiction = f } }
+  steps_decide value None false e f head signs = (head, signs, none-lawful (length p.nodes) (length known) known d.steps e, f)
 
 -- ---- that nothing is allowed
 module _ (p : Parts) (given : Option ℕ) (d : Dual) where
@@ -132,10 +132,10 @@ decided : (p : Parts) (c : Assertion) → HasDual c → HasWeightsNotBelow0 c �
 decided p (Modelled m) has low r = absurd has
 decided p (Excluded given d) has low r =
     excluded_by_steps p given d (steps_find p (Excluded given d)) r.model
-    (steps_decide p (start_for p Nothing given 0 d) d None (first_refusal (length p.nodes) (start_for p Nothing given 0 d) d.steps) (ends_in_contradiction d.steps) refl refl r.head r.signs)
+    (steps_decide p (start_for p Nothing given 0 d) d None (first_refusal (length p.nodes) (start_for p Nothing given 0 d) d.steps) (ends_in_contradiction (start_for p Nothing given 0 d) d.steps) refl refl r.head r.signs)
 decided p (Bounded kind q value m d) has low r =
     bounded_by_steps p kind q value m d (steps_find p (Bounded kind q value m d)) low r.model
-    (steps_decide p (start_for p kind q.given q.both d) d (Some value) (first_refusal (length p.nodes) (start_for p kind q.given q.both d) d.steps) (ends_in_contradiction d.steps) refl refl r.head r.signs)
+    (steps_decide p (start_for p kind q.given q.both d) d (Some value) (first_refusal (length p.nodes) (start_for p kind q.given q.both d) d.steps) (ends_in_contradiction (start_for p kind q.given q.both d) d.steps) refl refl r.head r.signs)
 
 -- nothing shows a claim by a dual without steps
 never_shown : (p : Parts) (c : Assertion) → HasDual c → IsValidClaim p (stepless c) → ⊥

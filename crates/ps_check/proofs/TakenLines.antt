@@ -4,7 +4,7 @@ use Rattle.std.specs.List.{AllByRecursion}
 use Rattle.ps_table.specs.declared.event.Event.{Event}
 use Rattle.ps_table.specs.declared.event.Event.TheVariants.{Pivot, Priced}
 use Rattle.ps_problem.specs.Problems.{Parts}
-use Rattle.ps_pb.specs.Steps.{Step}
+use Rattle.ps_pb.specs.declared.step.Step.{Step}
 use Rattle.ps_answer.specs.declared.answer.Model.{Model}
 use Rattle.ps_answer.specs.declared.answer.Dual.{Dual}
 use Rattle.ps_answer.specs.declared.item.LineItem.{LineItem}

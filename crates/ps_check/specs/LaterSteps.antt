@@ -3,7 +3,8 @@ use Rattle.std.specs.Prelude.{◌↔◌, ℕ, pos, ◌≤ℤ◌, Bool, Option, S
 use Rattle.ps_problem.specs.Problems.{Parts}
 use Rattle.ps_meaning.specs.Rational.{Rational}
 use Rattle.ps_pb.specs.declared.refused.StepRefused.{StepRefused as Why}
-use Rattle.ps_pb.specs.Steps.{Step, ends_in_contradiction}
+use Rattle.ps_pb.specs.Steps.{ends_in_contradiction}
+use Rattle.ps_pb.specs.declared.step.Step.{Step}
 use Rattle.ps_claims.specs.declared.reason.Reason.{Reason}
 use Rattle.ps_claims.specs.declared.reason.Reason.TheVariants.{StepRefused, NotRefuted}
 use Rattle.ps_claims.specs.Duals.{HaveSigns}
@@ -43,14 +44,15 @@ HasDual (Bounded kind q value m d) = Unit {0}
 abbrev pub HasWeightsNotBelow0 : Assertion → Type 0
 HasWeightsNotBelow0 c = IfSome (claimed_model c) (λ m. All (λ e. pos 0 ≤ℤ e.weight) m.worlds)
 
--- the reason that steps give: the first that isn't lawful, or that the last one has literals
+-- the reason that steps give: the first that isn't lawful, or that the last one adds no contradiction
 abbrev pub reason_by : Option (ℕ × Why) → Bool → Option Reason
 reason_by None ends = found_behind ends
 reason_by (Some refused) ends = Some (StepRefused refused.0 refused.1)
 
 -- the reason that the steps of a claim's dual give, taken one after another
 abbrev pub steps_find : Parts → Assertion → Option Reason
-steps_find p c = reason_by (first_refused_by (checker_for p c) (steps_of c)) (ends_in_contradiction (steps_of c))
+steps_find p c =
+    reason_by (first_refused_by (checker_for p c) (steps_of c)) (ends_in_contradiction (checker_for p c).known (steps_of c))
 
 -- the reason against a claim, by the one against its dual without steps: the same, or for want of steps alone what they give
 abbrev pub with_steps_find : Parts → Assertion → Option Reason → Option Reason

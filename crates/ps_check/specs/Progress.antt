@@ -4,8 +4,9 @@ use Rattle.std.specs.Prelude.{List, [], ◌∷◌, ◌++◌, length, nat_eq, nat
 use Rattle.ps_meaning.specs.Rational.{fraction}
 use Rattle.ps_problem.specs.Problems.{Parts}
 use Rattle.ps_pb.specs.declared.refused.StepRefused.{StepRefused as Why}
-use Rattle.ps_pb.specs.Steps.{Step, id_of, refusal_of}
-use Rattle.ps_pbcheck.specs.Checked.{Checked, after_step}
+use Rattle.ps_pb.specs.Steps.{number_of}
+use Rattle.ps_pb.specs.declared.step.Step.{Step}
+use Rattle.ps_pbcheck.specs.Checked.{Checked, after_step, refusal_by}
 use Rattle.ps_answer.specs.declared.answer.Weighted.{Weighted}
 use Rattle.ps_answer.specs.declared.answer.Model as answer
 use Rattle.ps_answer.specs.declared.item.Ratio.{Ratio}
@@ -126,11 +127,11 @@ HasRows p rows old new = new ≡ old
 -- a step is taken, or refused for this reason
 abbrev pub step_judged : Subject → Checked → Step → Option Why → Stage
 step_judged subject c s None = Refuting subject (after_step c s)
-step_judged subject c s (Some why) = Failed (claim_on subject) (StepRefused (id_of s) why)
+step_judged subject c s (Some why) = Failed (claim_on subject) (StepRefused (number_of c.known s) why)
 
 -- the stage behind a step
 abbrev pub step_more : Step → Stage → Stage
-step_more s (Refuting subject c) = step_judged subject c s (refusal_of c.variables c.known s)
+step_more s (Refuting subject c) = step_judged subject c s (refusal_by c s)
 step_more s stage = stage
 
 -- what is found behind the last step of a dual

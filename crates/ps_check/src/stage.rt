@@ -179,12 +179,13 @@ fn behind_rows(
 fn behind_step(subject: Subject, mut checker: Checker, step: &Step) -> Result<Stage, NoMemory>
     ensures { IfOk result (λ new. new ≡ step_more step.now (Refuting subject checker)) }
 {
+    let number = checker.number_of(step);
     match checker.take(step) {
         Ok(()) => Ok(Stage::Refuting { subject, checker }),
         Err(StepRefused::NoMemory) => Err(NoMemory),
         Err(why) => Ok(Stage::Failed {
             claim: subject.claim(),
-            reason: Reason::StepRefused { step: step.id, why },
+            reason: Reason::StepRefused { step: number, why },
         }),
     }
 }

@@ -6,7 +6,7 @@ use Rattle.ps_meaning.specs.declared.side.Side.{Side}
 use Rattle.ps_meaning.specs.declared.side.Side.TheVariants.{AtLeast, AtMost, Exactly}
 use Rattle.ps_meaning.specs.Rows.{Row, indicator, row_in}
 use Rattle.ps_meaning.specs.Rational.{Rational}
-use Rattle.ps_pb.specs.Steps.{Step}
+use Rattle.ps_pb.specs.declared.step.Step.{Step}
 use Rattle.ps_claims.specs.Queries.{Query}
 pub use Rattle.ps_claims.specs.declared.claim_kind.ClaimKind.{ClaimKind}
 pub use Rattle.ps_claims.specs.declared.claim_kind.ClaimKind.TheVariants.{Nothing, Lower, Upper}

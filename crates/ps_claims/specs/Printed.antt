@@ -1,12 +1,13 @@
 -- Models, duals and causes whose numbers can be printed.
-use Rattle.std.specs.Prelude.{ℕ, ◌<◌, ◌≤◌, ◌+◌, List, All, length, unsigned_abs}
+use Rattle.std.specs.Prelude.{ℕ, ◌<◌, ◌≤◌, ◌+◌, ◌/◌, List, All, length, unsigned_abs, ⊤}
 use Rattle.ps_meaning.specs.Rational.{Rational}
 use Rattle.ps_meaning.specs.Wide.{Fits, size_limit}
 use Rattle.ps_meaning.specs.declared.limits.TheConstants.{PRINTED_LIMIT}
 use Rattle.ps_pb.specs.Constraints.{Constraint}
-use Rattle.ps_pb.specs.Steps.{Step}
+use Rattle.ps_pb.specs.declared.step.Step.{Step}
+use Rattle.ps_pb.specs.declared.step.Step.TheVariants.{Clause, Delete, Add, Multiply, Divide, Saturate}
 use Rattle.ps_pb.specs.Limits.{IsLiteral}
-use Rattle.ps_log.specs.Limits.{IsGoalWithin}
+use Rattle.ps_log.specs.Limits.{IsFactor, IsGoalWithin}
 use Rattle.ps_table.specs.declared.place.WideAt.{WideAt}
 use Rattle.ps_log.specs.declared.limits.TheConstants.{MOST_CONFLICTS}
 use Rattle.ps_answer.specs.declared.answer.Model.{Model}
@@ -22,13 +23,22 @@ use Rattle.ps_answer.specs.declared.answer.QueryAnswer.TheVariants as query
 use Rattle.ps_answer.specs.declared.answer.Answer.{Answer}
 use Rattle.ps_claims.specs.Certificates.{IsSmallDual}
 
--- the most steps that a refutation has: one more than a search may learn clauses
+-- the most steps that a refutation has: one more clause than a search may learn, and deletions of half of these
 abbrev pub most_steps : ℕ
-most_steps = MOST_CONFLICTS + 1
+most_steps = MOST_CONFLICTS + MOST_CONFLICTS / 2 + 1
 
--- the literals of each step are those of variables: none is 0
+-- the literals of a step are those of variables, so none is 0; its factor is within the limit
+abbrev pub IsOfLiterals : Step → Type 0
+IsOfLiterals (Clause id lits hints) = All IsLiteral lits
+IsOfLiterals (Delete id) = ⊤
+IsOfLiterals (Add id left right) = ⊤
+IsOfLiterals (Multiply id of by) = IsFactor by
+IsOfLiterals (Divide id of by) = IsFactor by
+IsOfLiterals (Saturate id of) = ⊤
+
+-- so are the literals of each step
 abbrev pub AreOfLiterals : List Step → Type 0
-AreOfLiterals steps = All (λ s. All IsLiteral s.lits) steps
+AreOfLiterals steps = All IsOfLiterals steps
 
 -- the total, and with it each weight, is at most the greatest number that an answer prints
 pub record IsPrintedModel (m : Model) : Type 0 where

@@ -2,7 +2,8 @@
 use Rattle.std.proofs.Common.{pos, List, length, inl, inr, sym, ◌∙◌, subst}
 use Rattle.ps_meaning.specs.Formula.{World}
 use Rattle.ps_pb.specs.Constraints.{Constraint}
-use Rattle.ps_pb.specs.Steps.{Step, Refutes}
+use Rattle.ps_pb.specs.Steps.{Refutes}
+use Rattle.ps_pb.specs.declared.step.Step.{Step}
 use Rattle.ps_clause.specs.Forms.{form_of, first_known}
 use Rattle.ps_problem.specs.Problems.{AreParts}
 use Rattle.ps_table.specs.declared.costs.Costs.{Costs}

@@ -2,11 +2,12 @@
 ghost use Rattle.std.specs.Prelude.{◌↔◌, ◌≤◌, All, IsTrue};
 ghost use Rattle.ps_log.specs.declared.limits.TheConstants.{MOST_CONFLICTS};
 ghost use Rattle.ps_pb.specs.Limits.{IsLiteral};
-ghost use Rattle.ps_claims.specs.Printed.{AreOfLiterals, IsPrintedDual};
+ghost use Rattle.ps_claims.specs.Printed.{IsOfLiterals, AreOfLiterals, IsPrintedDual};
 ghost use Rattle.ps_claims.specs.Certificates.{IsMultiplier, IsSmallDual};
 ghost use Rattle.ps_valid.specs.Limits.{AreSmall, IsAmount, IsSmallModel};
 
 use ps_answer::{Dual, MOST_ENTRIES, Model, Weighted};
+use ps_log::is_factor;
 use ps_meaning::PRINTED_LIMIT;
 use ps_pb::{Lit, Step};
 
@@ -60,10 +61,24 @@ fn are_literals(lits: &[Lit]) -> bool
     lits.iter().all(|lit| is_literal(lit))
 }
 
+// Whether a step's literals are those of variables, and its factor is within the limit.
+fn is_of_literals(step: &Step) -> bool
+    ensures { IsTrue result → IsOfLiterals step.now }
+{
+    match step {
+        Step::Clause { lits, .. } => are_literals(lits.as_slice()),
+        Step::Multiply { by, .. } => is_factor(by),
+        Step::Divide { by, .. } => is_factor(by),
+        Step::Delete { .. } => true,
+        Step::Add { .. } => true,
+        Step::Saturate { .. } => true,
+    }
+}
+
 fn are_of_literals(steps: &[Step]) -> bool
     ensures { IsTrue result → AreOfLiterals steps.now }
 {
-    steps.iter().all(|step| are_literals(step.lits.as_slice()))
+    steps.iter().all(|step| is_of_literals(step))
 }
 
 /// Whether a dual, whose numbers are small, has steps, and no more than a search that learns at most

@@ -1,5 +1,5 @@
 -- The world of an assignment that meets the clauses, and the values of worlds.
-use Rattle.std.proofs.Common.{◌≡◌, ℕ, ◌+◌, ℤ, pos, ◌+ℤ◌, ◌-ℤ◌, ◌≤ℤ◌, ◌<ℤ◌, ◌≤◌, Bool, true, List, [], ◌∷◌, ◌++◌, length, Some, All, refl, sym, ap, ◌∙◌, subst, inl, inr, arith}
+use Rattle.std.proofs.Common.{◌≡◌, ℕ, ◌+◌, ℤ, pos, ◌+ℤ◌, ◌-ℤ◌, ◌≤ℤ◌, ◌<ℤ◌, ◌≤◌, Bool, true, List, [], ◌∷◌, ◌++◌, length, get_or, Some, All, refl, sym, ap, ◌∙◌, subst, inl, inr, arith}
 use Rattle.std.specs.Prelude.{IsTrue}
 use Rattle.std.proofs.lemmas.List.{length-append}
 use Rattle.std.proofs.lemmas.List.Elements.{All-weaker}
@@ -9,7 +9,11 @@ use Rattle.ps_formula.specs.Nodes.{AreNodes, AtomBelow}
 use Rattle.ps_pb.specs.Assignments.{Assignment}
 use Rattle.ps_pb.specs.Constraints.{Constraint}
 use Rattle.ps_pb.specs.Weights.{true_weight, constraint_of}
-use Rattle.ps_pb.specs.Steps.{Step, Refutes, is_contradiction, ends_in_contradiction}
+use Rattle.ps_pb.specs.Steps.{Known, Refutes, lits_of, ends_in_contradiction}
+use Rattle.ps_pb.specs.declared.step.Step.TheVariants.{Clause, Delete, Add, Multiply, Divide, Saturate}
+use Rattle.ps_pb.proofs.Cutting.{clause-contradictory}
+use Rattle.ps_pb.proofs.Onward.{ends-append}
+use Rattle.ps_pb.specs.declared.step.Step.{Step}
 use Rattle.ps_clause.specs.Clauses.{clause_form}
 use Rattle.ps_clause.specs.Forms.{Form, form_of, first_known, MeetsForm}
 use Rattle.ps_clause.specs.Extensions.{extension, world_of}
@@ -20,7 +24,8 @@ use Rattle.ps_pb.specs.Limits.{IsLiteral}
 use Rattle.ps_pb.specs.declared.limits.TheConstants.{MOST_VARIABLES}
 use Rattle.ps_log.specs.Logs.{Telling}
 use Rattle.ps_learn.specs.Trails.{IsLit}
-use Rattle.ps_sat.specs.Searches.{Handed, AreStepsOf}
+use Rattle.ps_sat.proofs.Standers.{learned-size}
+use Rattle.ps_sat.specs.Searches.{Handed, AreStepsOf, IsClauseOrDeletion}
 use Rattle.ps_maxsat.specs.declared.problem.Wcnf.{Wcnf}
 use Rattle.ps_maxsat.specs.declared.pricing.Priced.{Priced}
 use Rattle.ps_maxsat.specs.declared.pricing.Priced.TheVariants.{NoneAbove, Best, Cut, Spent}
@@ -29,7 +34,7 @@ use Rattle.ps_answer.specs.declared.answer.Dual.{Dual}
 use Rattle.ps_claims.specs.declared.claim_kind.ClaimKind.{ClaimKind}
 use Rattle.ps_claims.proofs.Refutations.{extension-meets}
 use Rattle.ps_claims.specs.Certificates.{dual_of}
-use Rattle.ps_claims.specs.Printed.{AreOfLiterals}
+use Rattle.ps_claims.specs.Printed.{IsOfLiterals, AreOfLiterals}
 use Rattle.ps_runs.specs.Searches.{IsSpentSearch}
 use Rattle.ps_runs.specs.Programs.{goal_at_least, RefutesGain}
 use Rattle.ps_runs.specs.Subjects.{program_of}
@@ -37,10 +42,8 @@ use Rattle.ps_pricing.specs.Sought.{HasSteps, HasFewSteps}
 use Rattle.ps_pricing.specs.Pricings.{IsAssigned, PricingSubject, gain, AreAtMost, IsCutAbove, IsFound, IsSpent, IsRefutedBy, IsWcnf}
 
 -- ---- steps of a log
-ends_so : (front : List Step) (s : Step) → is_contradiction s ≡ true → ends_in_contradiction (front ++ s ∷ []) ≡ true
-ends_so [] s h = h
-ends_so (t ∷ []) s h = h
-ends_so (t ∷ u ∷ front) s h = ends_so (u ∷ front) s h
+ends_so : (known : Known) (front : List Step) (last : ℕ) (hints : List ℕ) → ends_in_contradiction known (front ++ Clause last [] hints ∷ []) ≡ true
+ends_so known front last hints = ends-append known front (Clause last [] hints) ∙ clause-contradictory []
 
 -- the steps that a log told, where it holds these
 told_steps : (told : Bool) (new : Telling) (goal : Constraint) (f : Form) (steps : List Step) (h : Handed f goal told new) → IsTrue told → new.steps ≡ Some steps
@@ -50,16 +53,22 @@ told_steps told new goal f steps h tells is =
     cc
 
 -- literals of few variables are literals
-literals_of_few : (variables : ℕ) (steps : List Step) → variables ≤ MOST_VARIABLES → AreStepsOf variables steps → AreOfLiterals steps
-literals_of_few variables steps few =
-    All-weaker (λ s. All (IsLit variables) s.lits) (λ s. All IsLiteral s.lits)
-    (λ s. All-weaker (IsLit variables) IsLiteral (λ l is. (is.0, omega (arith, is.1, few))) s.lits) steps
+of_few : (variables : ℕ) (s : Step) → variables ≤ MOST_VARIABLES → All (IsLit variables) (lits_of s) → IsClauseOrDeletion s → IsOfLiterals s
+of_few variables (Clause id lits hints) few lit k = All-weaker (IsLit variables) IsLiteral (λ l is. (is.0, omega (arith, is.1, few))) lits lit
+of_few variables (Delete id) few lit k = tt
+of_few variables (Add id left right) few lit k = absurd k
+of_few variables (Multiply id of by) few lit k = absurd k
+of_few variables (Divide id of by) few lit k = absurd k
+of_few variables (Saturate id of) few lit k = absurd k
+
+literals_of_few : (variables : ℕ) (steps : List Step) → variables ≤ MOST_VARIABLES → AreStepsOf variables steps → All IsClauseOrDeletion steps → AreOfLiterals steps
+literals_of_few variables steps few lit kinds = λ i d lt. of_few variables (get_or steps i d) few (lit i d lt) (kinds i d lt)
 
 -- the steps that it told are of literals, where the form's variables are few
 told_literals : (told : Bool) (new : Telling) (goal : Constraint) (f : Form) (steps : List Step) → Handed f goal told new → IsTrue told → new.steps ≡ Some steps
     → f.variables ≤ MOST_VARIABLES → AreOfLiterals steps
 told_literals told new goal f steps h tells is few =
-    subst AreOfLiterals (told_steps told new goal f steps h tells is) (literals_of_few f.variables h.steps few h.literals)
+    subst AreOfLiterals (told_steps told new goal f steps h tells is) (literals_of_few f.variables h.steps few h.literals h.kinds)
 
 pub log_literals : (p : Wcnf) (conflicts : ℕ) (told : Bool) (new : Telling) (priced : Priced) (steps : List Step) → IsTrue told → new.steps ≡ Some steps
     → p.hard.variables ≤ MOST_VARIABLES → IsPricedLog p conflicts told new priced → AreOfLiterals steps
@@ -73,7 +82,7 @@ pub log_steps : (p : Wcnf) (conflicts : ℕ) (told : Bool) (new : Telling) (pric
     → IsPricedLog p conflicts told new priced → HasSteps p conflicts priced steps
 log_steps p conflicts told new (NoneAbove last) steps tells is h =
     let same = told_steps told new (goal_of p (pos 1)) p.hard steps h.0 tells is in
-    rw (← same) (record { lawful = h.0.lawful; contradiction = rw h.1.2 (ends_so h.1.0 h.1.1 h.1.5) })
+    rw (← same) (record { lawful = h.0.lawful; contradiction = rw h.1.2 (ends_so (first_known p.hard (goal_of p (pos 1))) h.1.0 last h.1.1) })
 log_steps p conflicts told new (Best a v searches) steps tells is h = tt
 log_steps p conflicts told new (Cut a v least searches) steps tells is h =
     let same = told_steps told new (goal_of p least) p.hard steps h.0 tells is in
@@ -82,13 +91,13 @@ log_steps p conflicts told new (Spent learned) steps tells is h =
     let same = told_steps told new (goal_of p (pos 1)) p.hard steps h.0 tells is in
     rw (← same) h.1
 
--- a refutation that it holds has at most one step more than clauses may be learned
+-- a refutation that it holds has at most one clause more than may be learned, and deletions of half of these
 pub few_steps : (p : Wcnf) (conflicts : ℕ) (told : Bool) (new : Telling) (priced : Priced) (steps : List Step) → IsTrue told → new.steps ≡ Some steps
     → IsPricedLog p conflicts told new priced → HasFewSteps conflicts priced steps
 few_steps p conflicts told new (NoneAbove last) steps tells is h =
     let same : h.0.steps ≡ steps = told_steps told new (goal_of p (pos 1)) p.hard steps h.0 tells is in
     let sized : length h.0.steps ≡ length h.1.0 + 1 = rw (h.1.2) (simp length-append (omega arith)) in
-    rw (← same) (omega (arith, sized, h.1.3.count))
+    rw (← same) (omega (arith, sized, learned-size p.hard (goal_of p (pos 1)) conflicts h.1.0 h.1.3))
 few_steps p conflicts told new (Best a v searches) steps tells is h = tt
 few_steps p conflicts told new (Cut a v least searches) steps tells is h = tt
 few_steps p conflicts told new (Spent learned) steps tells is h = tt

@@ -3,7 +3,7 @@ use Rattle.std.specs.Prelude.{◌≡◌, ◌⊎◌, ℕ, ℤ, pos, ◌<ℤ◌, �
 use Rattle.ps_meaning.specs.Formula.{World}
 use Rattle.ps_pb.specs.Assignments.{Assignment, full}
 use Rattle.ps_pb.specs.Constraints.{Constraint}
-use Rattle.ps_pb.specs.Steps.{Step}
+use Rattle.ps_pb.specs.declared.step.Step.{Step}
 use Rattle.ps_clause.specs.Forms.{form_of}
 use Rattle.ps_clause.specs.Extensions.{extension, IsWorldOf}
 use Rattle.ps_problem.specs.declared.query.Query.{Query}

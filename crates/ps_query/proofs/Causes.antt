@@ -6,7 +6,8 @@ use Rattle.std.proofs.lemmas.List.{length-map}
 use Rattle.std.proofs.lemmas.List.Elements.{All-nil, All-cons, All-head, All-tail}
 use Rattle.ps_meaning.specs.Rational.{Rational}
 use Rattle.ps_pb.specs.Constraints.{Constraint}
-use Rattle.ps_pb.specs.Steps.{Step, AreLawful}
+use Rattle.ps_pb.specs.Steps.{AreLawful}
+use Rattle.ps_pb.specs.declared.step.Step.{Step}
 use Rattle.ps_pb.specs.Weights.{weighted}
 use Rattle.ps_clause.specs.Forms.{form_of, first_known}
 use Rattle.ps_log.specs.Limits.{IsGoalWithin}

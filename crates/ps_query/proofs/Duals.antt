@@ -4,7 +4,8 @@ use Rattle.std.specs.List.{AllByRecursion}
 use Rattle.std.proofs.lemmas.List.{length-map}
 use Rattle.std.proofs.lemmas.Slice.Zip.{AllZip-long}
 use Rattle.ps_pb.specs.Constraints.{Constraint}
-use Rattle.ps_pb.specs.Steps.{Step, AreLawful}
+use Rattle.ps_pb.specs.Steps.{AreLawful}
+use Rattle.ps_pb.specs.declared.step.Step.{Step}
 use Rattle.ps_clause.specs.Forms.{form_of, first_known}
 use Rattle.ps_problem.specs.Problems.{Parts, AreParts, bounds_in, bound_of}
 use Rattle.ps_problem.specs.Rows.{rows_in}

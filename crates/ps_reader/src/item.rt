@@ -64,7 +64,14 @@ fn is_due(part: Part, word: &[u8]) -> bool
         Part::AnEntry => is(word, b"w"),
         Part::ADual => is(word, b"dual"),
         Part::SomeRows => is(word, b"y"),
-        Part::AStep => is(word, b"s"),
+        Part::AStep => {
+            is(word, b"s")
+                || is(word, b"d")
+                || is(word, b"a")
+                || is(word, b"m")
+                || is(word, b"v")
+                || is(word, b"u")
+        }
         Part::AGoal => is(word, b"g"),
         Part::ACause => is(word, b"open"),
         Part::ATrace => is(word, b"t"),

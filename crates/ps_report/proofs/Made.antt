@@ -8,9 +8,9 @@ use Rattle.ps_io.specs.declared.lines.Lines.{Lines}
 use Rattle.ps_io.specs.declared.sink.Sink.{Ghosts}
 use Rattle.ps_io.specs.declared.sink.WriteFault.{WriteFault}
 use Rattle.ps_log.specs.Lines.{HoldsLine}
-use Rattle.ps_log.specs.Texts.{with_number, with_numbers, step_numbers, goal_numbers, step_line, goal_line}
+use Rattle.ps_log.specs.Texts.{with_number, with_numbers, letter_of, numbers_of, goal_numbers, step_line, goal_line}
 use Rattle.ps_pb.specs.Constraints.{Constraint}
-use Rattle.ps_pb.specs.Steps.{Step}
+use Rattle.ps_pb.specs.declared.step.Step.{Step}
 use Rattle.ps_pb.specs.Weights.{weighted}
 use Rattle.ps_answer.specs.declared.item.LineItem.TheVariants as line
 use Rattle.ps_answer.specs.Items.{item_line}
@@ -40,7 +40,7 @@ number_words text (n ∷ ns) = number_words (with_number text n) ns
 
 -- the lines of steps and goals
 pub step_item : (s : Step) → step_line s ≡ item_line (line.StepLine s)
-step_item s = unfold step_line in (sym (number_words (115 ∷ []) (step_numbers s.id s.lits s.hints)))
+step_item s = unfold step_line in (sym (number_words (letter_of s ∷ []) (numbers_of s)))
 
 pub goal_item : (g : Constraint) → goal_line g ≡ item_line (line.GoalLine g)
 goal_item g = unfold goal_line in (sym (number_words (103 ∷ []) (goal_numbers g.degree (weighted g.terms))))

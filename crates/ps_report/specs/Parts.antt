@@ -6,7 +6,7 @@ use Rattle.ps_io.specs.declared.lines.Lines.{Lines}
 use Rattle.ps_io.specs.declared.sink.Sink.{Ghosts}
 use Rattle.ps_io.specs.declared.sink.WriteFault.{WriteFault}
 use Rattle.ps_pb.specs.Constraints.{Constraint}
-use Rattle.ps_pb.specs.Steps.{Step}
+use Rattle.ps_pb.specs.declared.step.Step.{Step}
 use Rattle.ps_table.specs.declared.event.Event.{Event}
 use Rattle.ps_answer.specs.declared.answer.Model.{Model}
 use Rattle.ps_answer.specs.declared.answer.Dual.{Dual}

@@ -31,7 +31,7 @@ fn step(alloc: Global) -> Option<Step> {
     let mut hints = List::new(alloc);
     hints.push(4).ok()?;
     hints.push(3).ok()?;
-    Some(Step {
+    Some(Step::Clause {
         id: 5,
         lits: List::new(alloc),
         hints,

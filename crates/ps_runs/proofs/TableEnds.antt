@@ -4,7 +4,7 @@ use Rattle.ps_meaning.specs.Formula.{World}
 use Rattle.ps_meaning.specs.Distribution.{total}
 use Rattle.ps_meaning.specs.Rational.{Rational}
 use Rattle.ps_meaning.specs.Sums.{int_sum_to}
-use Rattle.ps_pb.specs.Steps.{Step}
+use Rattle.ps_pb.specs.declared.step.Step.{Step}
 use Rattle.ps_clause.specs.Forms.{form_of}
 use Rattle.ps_table.specs.declared.costs.Costs.{Costs}
 use Rattle.ps_table.specs.Tableau.{Tableau, rows_of as table_rows, entry_at, basic_at}

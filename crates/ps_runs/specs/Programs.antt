@@ -7,7 +7,8 @@ use Rattle.ps_simplex.specs.Rule.{SimplexTable}
 use Rattle.ps_simplex.specs.Pivots.{System}
 use Rattle.ps_pb.specs.Constraints.{Constraint}
 use Rattle.ps_pb.specs.Weights.{constraint_of}
-use Rattle.ps_pb.specs.Steps.{Step, Refutes}
+use Rattle.ps_pb.specs.Steps.{Refutes}
+use Rattle.ps_pb.specs.declared.step.Step.{Step}
 use Rattle.ps_clause.specs.Forms.{Form, first_known}
 use Rattle.ps_table.specs.declared.home.Home.{Home}
 use Rattle.ps_claims.specs.Duals.{Dual}

@@ -11,7 +11,7 @@ use Rattle.ps_simplex.specs.Table.{IsFirst, Widened}
 use Rattle.ps_simplex.specs.Rule.{SimplexTable, IsFeasible, IsMoving, IsResting}
 use Rattle.ps_table.specs.declared.event.Event.{Event}
 use Rattle.ps_table.specs.Places.{weight_at}
-use Rattle.ps_pb.specs.Steps.{Step}
+use Rattle.ps_pb.specs.declared.step.Step.{Step}
 use Rattle.ps_clause.specs.Forms.{form_of, MeetsForm}
 use Rattle.ps_clause.specs.Extensions.{extension}
 use Rattle.ps_problem.specs.declared.query.Query as stored

@@ -6,7 +6,7 @@ use Rattle.ps_meaning.specs.Formula.{World}
 use Rattle.ps_simplex.specs.Table.{Belongs, Based}
 use Rattle.ps_simplex.specs.Rule.{SimplexTable, IsFeasible, IsMoving, IsResting}
 use Rattle.ps_simplex.specs.Pivots.{IsLawfulAt, simplex_table}
-use Rattle.ps_pb.specs.Steps.{Step}
+use Rattle.ps_pb.specs.declared.step.Step.{Step}
 use Rattle.ps_table.specs.Worlds.{AreDifferent}
 use Rattle.ps_table.specs.declared.col.Col.{Col}
 use Rattle.ps_table.specs.declared.event.Event.{Event}

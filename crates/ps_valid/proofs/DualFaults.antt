@@ -24,14 +24,14 @@ use Rattle.ps_problem.specs.declared.row.Row.{Row}
 use Rattle.ps_claims.specs.Rows.{problem_rows}
 use Rattle.ps_valid.specs.Aims.{Aim, NothingAllowed, aim_of, start_of}
 use Rattle.ps_valid.proofs.WrongSigns.{judged_signs}
-use Rattle.ps_valid.specs.DualTests.{IsFirstSignAt, HaveSignsAt, HasRun, IsFirstInRun, FindsInRun, FindsInDual}
+use Rattle.ps_valid.specs.DualTests.{first_refused_by, IsFirstSignAt, HaveSignsAt, HasRun, IsFirstInRun, FindsInRun, FindsInDual}
 
 module _ (p : Parts) (aim : Aim) (d : Dual) where
-  pub run_refutes : None ≡ first_refusal (length p.nodes) (start_of p aim d) d.steps → ends_in_contradiction d.steps ≡ true → HasRun p aim d
-  run_refutes none ends = record { lawful = none-lawful (length p.nodes) (start_of p aim d) d.steps (sym none); contradiction = ends }
+  pub run_refutes : None ≡ first_refusal (length p.nodes) (start_of p aim d) d.steps → ends_in_contradiction (start_of p aim d) d.steps ≡ true → HasRun p aim d
+  run_refutes none ends = record { lawful = none-lawful (length p.nodes) (length (start_of p aim d)) (start_of p aim d) d.steps (sym none); contradiction = ends }
 
-  pub run_open : None ≡ first_refusal (length p.nodes) (start_of p aim d) d.steps → ends_in_contradiction d.steps ≡ false → IsFirstInRun p aim d NotRefuted
-  run_open none ends = (none-lawful (length p.nodes) (start_of p aim d) d.steps (sym none), ends)
+  pub run_open : None ≡ first_refusal (length p.nodes) (start_of p aim d) d.steps → ends_in_contradiction (start_of p aim d) d.steps ≡ false → IsFirstInRun p aim d NotRefuted
+  run_open none ends = (none-lawful (length p.nodes) (length (start_of p aim d)) (start_of p aim d) d.steps (sym none), ends)
 
   in_run : (value : Option Rational) (r : Reason) → HasHead value d → HaveSigns (problem_rows p) d.rows → IsFirstInRun p aim d r → IsFirstFault p (start_of p aim d) value d r
   in_run value (StepRefused id why) head signs f = (head, signs, f)
@@ -56,7 +56,7 @@ start_is p Upper given both d = refl
 -- where the checker begins with the goal of the dual's combination, the first refusal is that of the dual's steps
 pub run_found : (p : Parts) (kind : ClaimKind) (given : Option ℕ) (both : ℕ) (d : Dual) (sum : Combination) (first : Checked) (found : Option (ℕ × Why)) → first ≡ first_checked (form_of p.nodes) (goal_of sum)
     → sum ≡ combination_of kind given both (rows_in p.sentences) d
-    → found ≡ first_refusal first.variables first.known d.steps → found ≡ first_refusal (length p.nodes) (start_of p (aim_of kind given both) d) d.steps
+    → found ≡ first_refused_by first d.steps → found ≡ first_refusal (length p.nodes) (start_of p (aim_of kind given both) d) d.steps
 run_found p kind given both d sum first found e f h = (rw (e, f) at h) ∙ ap (λ k. first_refusal (length p.nodes) k d.steps) (start_is p kind given both d)
 
 module _ (p : Parts) (given : Option ℕ) (d : Dual) where

@@ -10,9 +10,9 @@ use Rattle.ps_io.specs.LineText.{with_word}
 use Rattle.ps_io.proofs.WordLemmas.{length-with_word}
 use Rattle.ps_meaning.specs.Formula.{World}
 use Rattle.ps_pb.specs.Constraints.{Constraint}
-use Rattle.ps_pb.specs.Steps.{Step}
+use Rattle.ps_pb.specs.declared.step.Step.{Step}
 use Rattle.ps_pb.specs.Weights.{weighted}
-use Rattle.ps_log.specs.Texts.{with_number, with_numbers, step_numbers, goal_numbers, step_line, goal_line}
+use Rattle.ps_log.specs.Texts.{with_number, with_numbers, letter_of, numbers_of, goal_numbers, step_line, goal_line}
 use Rattle.ps_log.specs.Limits.{IsStepWithin, IsGoalWithin}
 use Rattle.ps_log.proofs.Lengths.{step_is_short, goal_is_short}
 use Rattle.ps_frac.specs.declared.wide.Op.{Op}
@@ -140,7 +140,7 @@ number_words text (n ∷ ns) = number_words (with_number text n) ns
 
 short_step : (s : Step) → IsStepWithin s → length (item_line (StepLine s)) < 65536
 unfolding step_line
-short_step s h = rw (number_words (115 ∷ []) (step_numbers s.id s.lits s.hints)) (step_is_short s h)
+short_step s h = rw (number_words (letter_of s ∷ []) (numbers_of s)) (step_is_short s h)
 
 short_goal : (g : Constraint) → IsGoalWithin g → length (item_line (GoalLine g)) < 65536
 unfolding goal_line

@@ -100,7 +100,7 @@ module _ (p : Parts) (known : Known) (value : Option Rational) (d : Dual) where
   against_dual HeadWrong a = inl (a, refl)
   against_dual (MultiplierSign n) a = inr (a.0, inl ((λ signs. sign_there (problem_rows p) d.rows a.1.0 signs a.1.3), (n, refl, a.1)))
   against_dual (StepRefused id why) a = inr (a.0, inr (a.1, inl ((λ none. no_refusal refusal (id, why) a.2 none), ((id, why), refl, a.2))))
-  against_dual NotRefuted a = inr (a.0, inr (a.1, inr (lawful-none (length p.nodes) known d.steps a.2, refl)))
+  against_dual NotRefuted a = inr (a.0, inr (a.1, inr (lawful-none (length p.nodes) (length known) known d.steps a.2, refl)))
   against_dual other a = absurd a
 
   one_dual : IsSingle (IsFirstFault p known value d)

@@ -5,7 +5,8 @@ use Rattle.ps_problem.specs.declared.row.Row.{Row}
 use Rattle.ps_problem.specs.Problems.{Parts}
 use Rattle.ps_meaning.specs.Rational.{Rational}
 use Rattle.ps_pb.specs.declared.refused.StepRefused as refused
-use Rattle.ps_pb.specs.Steps.{Step, Refutes, AreLawful, ends_in_contradiction, first_refusal}
+use Rattle.ps_pb.specs.Steps.{Refutes, AreLawful, ends_in_contradiction, first_refusal, first_refusal_after}
+use Rattle.ps_pb.specs.declared.step.Step.{Step}
 use Rattle.ps_pbcheck.specs.Checked.{Checked}
 use Rattle.ps_claims.specs.declared.reason.Reason.{Reason}
 use Rattle.ps_claims.specs.declared.reason.Reason.TheVariants.{StepRefused, NotRefuted}
@@ -26,9 +27,9 @@ IsFirstSignAt rows ys n = (i : ℕ) × (n ≡ i + 1) × HaveSignsAt (take i rows
 abbrev pub FindsSignAt : List Row → List ℤ → Option ℕ → Type 0
 FindsSignAt rows ys found = MatchOption found (HaveSignsAt rows ys) (IsFirstSignAt rows ys)
 
--- the id of the first of these steps that a checker refuses, and why
+-- the number of the first of these steps that a checker refuses, and why
 abbrev pub first_refused_by : Checked → List Step → Option (ℕ × refused.StepRefused)
-first_refused_by c steps = first_refusal c.variables c.known steps
+first_refused_by c steps = first_refusal_after c.variables c.given c.known steps
 
 -- the steps of a dual refute its goal
 abbrev pub HasRun : Parts → Aim → Dual → Type 0
@@ -39,7 +40,7 @@ abbrev pub IsFirstInRun : Parts → Aim → Dual → Reason → Type 0
 IsFirstInRun p aim d (StepRefused id why) =
     first_refusal (length p.nodes) (start_of p aim d) d.steps ≡ Some (id, why)
 IsFirstInRun p aim d NotRefuted =
-    AreLawful (length p.nodes) (start_of p aim d) d.steps × (ends_in_contradiction d.steps ≡ false)
+    AreLawful (length p.nodes) (start_of p aim d) d.steps × (ends_in_contradiction (start_of p aim d) d.steps ≡ false)
 IsFirstInRun p aim d other = ⊥
 
 -- the reason is the first against the steps, and there is none where they refute the goal

@@ -1,8 +1,8 @@
 //! The run of a dual's steps.
 ghost use Rattle.std.specs.Prelude.{◌≡◌, ◌≤◌, false, None, IfOk};
-ghost use Rattle.ps_pb.specs.Steps.{refusal_of, ends_in_contradiction};
+ghost use Rattle.ps_pb.specs.Steps.{ends_in_contradiction};
 ghost use Rattle.ps_clause.specs.Forms.{form_of};
-ghost use Rattle.ps_pbcheck.specs.Checked.{after_step, first_checked};
+ghost use Rattle.ps_pbcheck.specs.Checked.{after_step, first_checked, refusal_by};
 ghost use Rattle.ps_claims.specs.Goals.{goal_of, size_of};
 ghost use Rattle.ps_claims.specs.Limits.{most_combination};
 ghost use Rattle.ps_valid.specs.DualTests.{first_refused_by};
@@ -29,7 +29,7 @@ pub fn checker_of(alloc: Global, problem: &Problem, sum: &Combination) -> Result
 // Why a step is refused; it is taken where it isn't.
 fn refusal(checker: &mut Checker, step: &Step) -> Result<Option<StepRefused>, NoMemory>
     ensures found { IfOk result
-        (λ o. o ≡ refusal_of checker.old.variables checker.old.known step.now) }
+        (λ o. o ≡ refusal_by checker.old step.now) }
     ensures taken { IfOk result (λ o. o ≡ None → checker.new ≡ after_step checker.old step.now) }
 {
     match checker.take(step) {
@@ -39,8 +39,8 @@ fn refusal(checker: &mut Checker, step: &Step) -> Result<Option<StepRefused>, No
     }
 }
 
-/// Takes steps up to the first that isn't lawful, and answers its id and why it isn't. Where all
-/// are taken the checker is refuted where the last one has no literals.
+/// Takes steps up to the first that isn't lawful, and answers its number and why it isn't. Where
+/// all are taken the checker is refuted where the last one adds a contradiction.
 #[tactic(auto, using(crate::proofs::StepRuns::taken_next))]
 pub fn first_refused(
     checker: &mut Checker,
@@ -49,11 +49,13 @@ pub fn first_refused(
     requires fresh { checker.old.refuted ≡ false }
     ensures found { IfOk result (λ o. o ≡ first_refused_by checker.old steps.now) }
     ensures ends { IfOk result
-        (λ o. o ≡ None → checker.new.refuted ≡ ends_in_contradiction steps.now) }
+        (λ o. o ≡ None
+            → checker.new.refuted ≡ ends_in_contradiction checker.old.known steps.now) }
 {
     for step in steps {
+        let number = checker.number_of(step);
         if let Some(why) = refusal(checker, step)? {
-            return Ok(Some((step.id, why)));
+            return Ok(Some((number, why)));
         }
     }
     Ok(None)

@@ -91,7 +91,7 @@ impl StepList {
                     *id = next;
                 }
                 let number = u32::try_from(self.given.saturating_add(step)).unwrap_or(u32::MAX);
-                steps.push(Step {
+                steps.push(Step::Clause {
                     id: next,
                     lits: lits_of(alloc, clauses.lits(number))?,
                     hints: self.hints_of(alloc, step, &ids)?,
