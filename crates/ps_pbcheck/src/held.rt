@@ -1,5 +1,5 @@
 //! What the checker knows.
-ghost use Rattle.std.specs.Prelude.{◌≡◌, ◌++◌, [], ◌∷◌, length, map, is_some, replicate, ◌<◌};
+ghost use Rattle.std.specs.Prelude.{◌≡◌, ◌++◌, [], ◌∷◌, length, map, is_some, replicate, ◌<◌, ◌^◌};
 ghost use Rattle.std.specs.Prelude.{IfOk, OnOk, OnErr, IfSome, IfNone, None, slice_set};
 ghost use Rattle.ps_pb.specs.Assignments.{AreDifferent};
 ghost use Rattle.ps_pb.specs.Weights.{clause_of};
@@ -84,7 +84,8 @@ impl Held {
 
     /// How many ids have been given out.
     pub(crate) fn len(&self) -> usize
-        ensures { result ≡ length self.now.known }
+        ensures value { result ≡ length self.now.known }
+        ensures few { result < 2 ^ 63 }
     {
         self.slots.len()
     }

@@ -117,7 +117,7 @@ holds_more told old new c ss more h grows = λ b.
     (now.0, now.1 ∙ was.1, now.2 ∙ ap (option_map (λ zs. zs ++ more)) was.2)
 
 -- so many more were forgotten, and their deletions handed over
-pub turn-forgets : (f : Form) (goal : Constraint) (told : Bool) (old new : Telling) (k k' : Keeping) (u w : Trail) (lits : List ℤ) (learned forgotten below count : ℕ) → Turn f goal told old k.known u w lits learned forgotten → k.given ≡ length (first_known f goal) → below ≡ length k.known → HasForgottenSome w below k k' old new count → 2 * (forgotten + count) ≤ learned
+pub turn-forgets : (f : Form) (goal : Constraint) (told : Bool) (old new : Telling) (k k' : Keeping) (u w : Trail) (lits : List ℤ) (learned forgotten below count : ℕ) → Turn f goal told old k.known u w lits learned forgotten → k.given ≡ length (first_known f goal) → below ≡ length k.known → HasForgottenSome w below (k, old) (k', new) count → 2 * (forgotten + count) ≤ learned
     → Turn f goal told new k'.known u w lits learned (forgotten + count)
 turn-forgets f goal told old new k k' u w lits learned forgotten below count h given size some half = record {
   steps = h.steps ++ map Delete some.ids;
@@ -155,7 +155,7 @@ pub below-last : (n : ℕ) (cs cs' : List Constraint) (x : Lesson) → IsLearned
 below-last n cs cs' x l e = lawful-id n cs x l.lawful ∙ sym (ap length e ∙ length_push cs (clause_of x.lits))
 
 -- at most so many more were forgotten before an error
-pub turn-failed : (f : Form) (goal : Constraint) (told : Bool) (old new : Telling) (k k' : Keeping) (u w : Trail) (lits : List ℤ) (learned forgotten below most conflicts : ℕ) → Turn f goal told old k.known u w lits learned forgotten → k.given ≡ length (first_known f goal) → below ≡ length k.known → HasForgottenUpTo w below most k k' old new → 2 * (forgotten + most) ≤ learned → learned ≤ conflicts
+pub turn-failed : (f : Form) (goal : Constraint) (told : Bool) (old new : Telling) (k k' : Keeping) (u w : Trail) (lits : List ℤ) (learned forgotten below most conflicts : ℕ) → Turn f goal told old k.known u w lits learned forgotten → k.given ≡ length (first_known f goal) → below ≡ length k.known → HasForgottenUpTo w below most (k, old) (k', new) → 2 * (forgotten + most) ≤ learned → learned ≤ conflicts
     → HoldsLearned f goal conflicts told new
 turn-failed f goal told old new k k' u w lits learned forgotten below most conflicts h given size failed half le =
     let few = failed.1 in

@@ -70,10 +70,10 @@ grows-stays old mid new as g h = λ b.
     let y = h x.0 in
     (y.0, y.1 ∙ x.1, y.2 ∙ x.2)
 
-pub some-none : (t : Trail) (below : ℕ) (k : Keeping) (told : Telling) → HasForgottenSome t below k k told told 0
+pub some-none : (t : Trail) (below : ℕ) (k : Keeping) (told : Telling) → HasForgottenSome t below (k, told) (k, told) 0
 some-none t below k told = record { ids = []; forgets = refl; grows = grows-none told; size = refl }
 
-pub some-one : (t : Trail) (below : ℕ) (k k' : Keeping) (old new : Telling) (id : ℕ) → IsLearnedAt k id → IsNoReason t.entries id → id < below → HasForgotten k k' id → Grows old new (Delete id ∷ []) → HasForgottenSome t below k k' old new 1
+pub some-one : (t : Trail) (below : ℕ) (k k' : Keeping) (old new : Telling) (id : ℕ) → IsLearnedAt k id → IsNoReason t.entries id → id < below → HasForgotten k k' id → Grows old new (Delete id ∷ []) → HasForgottenSome t below (k, old) (k', new) 1
 some-one t below k k' old new id learned unused earlier has grows = record {
   ids = id ∷ [];
   forgets = (k', record { learned = learned; unused = unused; earlier = earlier }, has, refl);
@@ -81,7 +81,7 @@ some-one t below k k' old new id learned unused earlier has grows = record {
   size = refl;
 }
 
-pub some-then : (t : Trail) (below : ℕ) (k m k' : Keeping) (old mid new : Telling) (n count : ℕ) → HasForgottenSome t below k m old mid n → HasForgottenSome t below m k' mid new count → HasForgottenSome t below k k' old new (n + count)
+pub some-then : (t : Trail) (below : ℕ) (k m k' : Keeping) (old mid new : Telling) (n count : ℕ) → HasForgottenSome t below (k, old) (m, mid) n → HasForgottenSome t below (m, mid) (k', new) count → HasForgottenSome t below (k, old) (k', new) (n + count)
 some-then t below k m k' old mid new n count g h = record {
   ids = g.ids ++ h.ids;
   forgets = forgets-then t below k m k' g.ids h.ids g.forgets h.forgets;
@@ -90,7 +90,7 @@ some-then t below k m k' old mid new n count g h = record {
 }
 
 -- before an error
-pub some-stays : (t : Trail) (below most : ℕ) (k m k' : Keeping) (old mid new : Telling) (count : ℕ) → count ≤ most → HasForgottenSome t below k m old mid count → k' ≡ m → Stays mid new → HasForgottenUpTo t below most k k' old new
+pub some-stays : (t : Trail) (below most : ℕ) (k m k' : Keeping) (old mid new : Telling) (count : ℕ) → count ≤ most → HasForgottenSome t below (k, old) (m, mid) count → k' ≡ m → Stays mid new → HasForgottenUpTo t below most (k, old) (k', new)
 some-stays t below most k m k' old mid new count few h same stays = (count, few, record {
   ids = h.ids;
   forgets = subst (λ z. Forgets t below k h.ids z) (sym same) h.forgets;
@@ -182,7 +182,7 @@ pub used-to : (k : Keeping) (t : Trail) (below least : ℕ) → least ≤ below 
 used-to k t below least le u = record { at = λ id lt. u.at id (omega (arith, lt, le)) }
 
 -- before an error behind the first part
-pub upto-then : (t : Trail) (below most rest : ℕ) (k m k' : Keeping) (old mid new : Telling) (n : ℕ) → HasForgottenSome t below k m old mid n → n ≤ most → rest ≡ most - n → HasForgottenUpTo t below rest m k' mid new → HasForgottenUpTo t below most k k' old new
+pub upto-then : (t : Trail) (below most rest : ℕ) (k m k' : Keeping) (old mid new : Telling) (n : ℕ) → HasForgottenSome t below (k, old) (m, mid) n → n ≤ most → rest ≡ most - n → HasForgottenUpTo t below rest (m, mid) (k', new) → HasForgottenUpTo t below most (k, old) (k', new)
 upto-then t below most rest k m k' old mid new n g few e h =
     let le = h.1 in
     (n + h.0, omega (arith, few, e, le), some-then t below k m k' old mid new n h.0 g h.2)

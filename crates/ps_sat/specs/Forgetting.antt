@@ -53,13 +53,13 @@ abbrev pub Forgets : Trail → ℕ → Keeping → List ℕ → Keeping → Type
 Forgets t below k [] k' = k' ≡ k
 Forgets t below k (id ∷ ids) k' = (m : Keeping) × IsForgettable k t below id × HasForgotten k m id × Forgets t below m ids k'
 
--- so many clauses were forgotten, and their deletions handed over
-pub record HasForgottenSome (t : Trail) (below : ℕ) (k k' : Keeping) (old new : Telling) (count : ℕ) : Type 0 where
+-- so many clauses were forgotten, and their deletions handed over; what is kept and what the log tells, before and after
+pub record HasForgottenSome (t : Trail) (below : ℕ) (old new : Keeping × Telling) (count : ℕ) : Type 0 where
   pub ids : List ℕ
-  pub forgets : Forgets t below k ids k'
-  pub grows : Grows old new (map Delete ids)
+  pub forgets : Forgets t below old.0 ids new.0
+  pub grows : Grows old.1 new.1 (map Delete ids)
   pub size : length ids ≡ count
 
 -- at most so many clauses were forgotten
-abbrev pub HasForgottenUpTo : Trail → ℕ → ℕ → Keeping → Keeping → Telling → Telling → Type 0
-HasForgottenUpTo t below most k k' old new = (count : ℕ) × (count ≤ most) × HasForgottenSome t below k k' old new count
+abbrev pub HasForgottenUpTo : Trail → ℕ → ℕ → Keeping × Telling → Keeping × Telling → Type 0
+HasForgottenUpTo t below most old new = (count : ℕ) × (count ≤ most) × HasForgottenSome t below old new count

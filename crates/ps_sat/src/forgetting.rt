@@ -76,7 +76,7 @@ fn forget_unused<S: ProofSink>(
     requires whole { IsTrue (S.is_whole log.old) }
     ensures few { IfOk result (λ n. n ≤ 1) }
     ensures ok { (below : ℕ) → id < below → IfOk result
-        (HasForgottenSome trail.now below kept.old kept.new (S.told log.old) (S.told log.new)) }
+        (HasForgottenSome trail.now below (kept.old, S.told log.old) (kept.new, S.told log.new)) }
     ensures used { least ≡ 0 → OnOk result (IsUsedAt kept.new trail.now id) }
     ensures whole { OnOk result (IsTrue (S.is_whole log.new)) }
     ensures kept { OnErr result (kept.new ≡ kept.old) }
@@ -113,12 +113,12 @@ fn forget_some<S: ProofSink>(
     requires whole { IsTrue (S.is_whole log.old) }
     ensures few { IfOk result (λ n. n ≤ most) }
     ensures ok { IfOk result
-        (HasForgottenSome trail.now below kept.old kept.new (S.told log.old) (S.told log.new)) }
+        (HasForgottenSome trail.now below (kept.old, S.told log.old) (kept.new, S.told log.new)) }
     ensures used { least ≡ 0 → AreUsedBelow kept.old trail.now oldest.old
         → IfOk result (λ n. n < most → AreUsedBelow kept.new trail.now below) }
     ensures whole { OnOk result (IsTrue (S.is_whole log.new)) }
-    ensures err { OnErr result (HasForgottenUpTo trail.now below most kept.old kept.new
-        (S.told log.old) (S.told log.new)) }
+    ensures err { OnErr result (HasForgottenUpTo trail.now below most
+        (kept.old, S.told log.old) (kept.new, S.told log.new)) }
     ensures same_begins { S.begins log.new ≡ S.begins log.old }
     ensures counted { CountsSearchFault result (S.faults log.old) (S.faults log.new) }
     ensures no_memory { IsErrOf result SearchError.NoMemory → IsTrue (S.is_whole log.new) }
@@ -164,11 +164,11 @@ pub(crate) fn forget_due<S: ProofSink>(
     requires whole { IsTrue (S.is_whole log.old) }
     ensures few { IfOk result (λ n. n ≤ most) }
     ensures ok { IfOk result
-        (HasForgottenSome trail.now below kept.old kept.new (S.told log.old) (S.told log.new)) }
+        (HasForgottenSome trail.now below (kept.old, S.told log.old) (kept.new, S.told log.new)) }
     ensures used { IfOk result (λ n. n < most → AreUsedBelow kept.new trail.now below) }
     ensures whole { OnOk result (IsTrue (S.is_whole log.new)) }
-    ensures err { OnErr result (HasForgottenUpTo trail.now below most kept.old kept.new
-        (S.told log.old) (S.told log.new)) }
+    ensures err { OnErr result (HasForgottenUpTo trail.now below most
+        (kept.old, S.told log.old) (kept.new, S.told log.new)) }
     ensures same_begins { S.begins log.new ≡ S.begins log.old }
     ensures counted { CountsSearchFault result (S.faults log.old) (S.faults log.new) }
     ensures no_memory { IsErrOf result SearchError.NoMemory → IsTrue (S.is_whole log.new) }

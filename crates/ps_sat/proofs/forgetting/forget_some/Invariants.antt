@@ -5,7 +5,7 @@ use Rattle.ps_sat.proofs.forgetting.forget_some.Given as goal
 
 abbrev pub invariant-go : goal.invariant-go
 invariant-go g l = record {
-  some : HasForgottenSome l.trail l.below l.fn.kept l.kept (g.S.ProofSink.told l.fn.log) (g.S.ProofSink.told l.log) l.forgotten;
+  some : HasForgottenSome l.trail l.below (l.fn.kept, (g.S.ProofSink.told l.fn.log)) (l.kept, (g.S.ProofSink.told l.log)) l.forgotten;
   few : l.forgotten ≤ l.most;
   used : l.least ≡ 0 → AreUsedBelow l.fn.kept l.trail l.fn.oldest → AreUsedBelow l.kept l.trail l.oldest;
   whole : IsTrue (g.S.ProofSink.is_whole l.log);
