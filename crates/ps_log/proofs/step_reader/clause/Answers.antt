@@ -3,8 +3,8 @@ use Rattle.ps_log.specs.Numbers.{AreRead, AreParts, HasParts}
 use Rattle.ps_log.proofs.ClauseAnswers.{no-numbers, no-parts, clause-answer}
 use Rattle.ps_log.proofs.step_reader.clause.Goals as goal
 
-pub returns-in-None-numbers : goal.returns-in-None-numbers
-returns-in-None-numbers c = no-numbers c.args.text.now c.in_ok-numbers.ensures
+pub returns-in-None : goal.returns-in-None
+returns-in-None c = no-numbers c.args.text.now (subst (AreRead c.args.text.now) c.in-None.is c.in_ok-numbers.ensures)
 
 pub returns-in-Some-of : goal.returns-in-Some-of
 returns-in-Some-of c =

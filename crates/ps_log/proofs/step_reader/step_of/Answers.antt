@@ -7,7 +7,7 @@ returns-in-None c = no-start c.args.line.now c.in-None.ensures.none
 
 pub returns-in_default : goal.returns-in_default
 returns-in_default c =
-    other-letter c.args.line.now c.in-Some.letter c.in-Some.text.now c.in-Some.ensures.found
+    other-letter c.args.line.now c.in-Some.parts.0 c.in-Some.parts.1.now c.in-Some.ensures.found
     (record {
       no_clause = λ e. omega (arith, e);
       no_deletion = λ e. omega (arith, e);
