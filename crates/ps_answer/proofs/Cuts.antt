@@ -1,7 +1,7 @@
 -- Bytes that are cut at a separator.
 use Rattle.std.proofs.Common.{◌≡◌, ◌≢◌, ℕ, List, [], ◌∷◌, ◌++◌, length, refl, sym, ap, ◌∙◌, arith}
 use Rattle.ps_log.specs.Numbers.{Lacks}
-use Rattle.ps_log.proofs.StepShapes.{first_in, rest_in, head, tail}
+use Rattle.ps_log.proofs.ClauseShapes.{first_in, rest_in, head, tail}
 
 -- bytes are cut at the first separator in one way
 pub one_cut_at : (sep : ℕ) (xs ys us bs : List ℕ) → Lacks sep xs → Lacks sep us → xs ++ sep ∷ ys ≡ us ++ sep ∷ bs → (xs ≡ us) × (ys ≡ bs)

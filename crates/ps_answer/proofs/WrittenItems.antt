@@ -15,7 +15,7 @@ use Rattle.ps_log.specs.Texts.{letter_of, numbers_of, goal_numbers}
 use Rattle.ps_pb.specs.declared.step.Step.{Step}
 use Rattle.ps_pb.specs.declared.step.Step.TheVariants.{Clause, Delete, Add, Multiply, Divide, Saturate}
 use Rattle.ps_log.proofs.Reading.{Small, step_small, goal_small}
-use Rattle.ps_log.proofs.StepShapes.{first_in, rest_in}
+use Rattle.ps_log.proofs.ClauseShapes.{first_in, rest_in}
 use Rattle.ps_answer.specs.declared.item.Ratio.{Ratio}
 use Rattle.ps_answer.specs.declared.item.LineItem.{LineItem}
 use Rattle.ps_answer.specs.declared.item.LineItem.TheVariants as line
@@ -164,7 +164,8 @@ both : (l : List ℕ) (ws : List Word) → (0 < length l) × (no_space l ≡ tru
     → SpellWords (words_of (joined (Letters l ∷ ws))) (Letters l ∷ ws) × IsOneLine (joined (Letters l ∷ ws))
 both l ws n c h = written_both l ws n (small_words ws c h)
 
-letter_clean : (s : Step) → (0 < length (letter_of s ∷ [])) × (no_space (letter_of s ∷ []) ≡ true)
+-- the letter of a step is a word
+pub letter_clean : (s : Step) → (0 < length (letter_of s ∷ [])) × (no_space (letter_of s ∷ []) ≡ true)
 letter_clean (Clause i ls hs) = (omega arith, refl)
 letter_clean (Delete i) = (omega arith, refl)
 letter_clean (Add i j k) = (omega arith, refl)

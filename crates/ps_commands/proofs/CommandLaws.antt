@@ -15,7 +15,7 @@ use Rattle.ps_commands.specs.declared.command.LimitValue.{LimitValue}
 use Rattle.ps_commands.specs.declared.command.LimitValue.TheVariants.{Number, Enough}
 use Rattle.ps_commands.specs.declared.command.RunSettings.{RunSettings}
 use Rattle.ps_commands.specs.declared.command.TheConstants.{DEFAULT_PIVOTS}
-use Rattle.ps_log.proofs.StepShapes.{head, tail}
+use Rattle.ps_log.proofs.ClauseShapes.{head, tail}
 use Rattle.ps_commands.specs.Commands.{words_of, limit_word, default_of, most_of, value_word, MayBe, pivots_of, LimitSetting, setting_words, AreSettings, IsSetTo, AreWordsOf, SetOne, SetRuns, SpellRuns, SpellMake, Spell, SpellNone}
 use Rattle.ps_commands.specs.Settings.{FindsNumber, FindsOne, SetsNoOne, SetNoRuns, SpellsNoLinks, is_enough, limits_by}
 use Rattle.ps_commands.specs.Replies.{AreLimitsOf}

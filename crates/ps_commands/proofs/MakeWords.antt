@@ -8,7 +8,7 @@ use Rattle.ps_commands.specs.declared.command.Command.TheVariants.{Check, CheckM
 use Rattle.ps_commands.specs.declared.command.LimitValue.{LimitValue}
 use Rattle.ps_commands.specs.declared.command.LimitValue.TheVariants.{Number, Enough}
 use Rattle.ps_commands.specs.declared.command.RunSettings.{RunSettings}
-use Rattle.ps_log.proofs.StepShapes.{head, tail}
+use Rattle.ps_log.proofs.ClauseShapes.{head, tail}
 use Rattle.ps_commands.specs.Commands.{setting_words, SetRuns, SpellMake, Spell, SpellNone}
 use Rattle.ps_commands.specs.Settings.{SetNoRuns, SpellsNoLinks, is_enough, limits_by}
 use Rattle.ps_commands.proofs.CommandLaws.{mark_of, name_of, name_none, other, one_set, set_behind}

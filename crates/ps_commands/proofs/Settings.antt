@@ -6,7 +6,7 @@ use Rattle.std.specs.Str.Parse.{AllDigits}
 use Rattle.std.proofs.lemmas.Fmt.{decimal_injective, decimal_is_IsNumeral}
 use Rattle.std.proofs.lemmas.Bool.{cases_order}
 use Rattle.std.proofs.lemmas.List.{get_or_default}
-use Rattle.ps_log.proofs.StepShapes.{first_in, rest_in, head, tail}
+use Rattle.ps_log.proofs.ClauseShapes.{first_in, rest_in, head, tail}
 use Rattle.ps_commands.specs.declared.command.Limit.{Limit}
 use Rattle.ps_commands.specs.declared.command.Limit.TheVariants.{Bytes, Pivots, Conflicts}
 use Rattle.ps_commands.specs.declared.command.LimitValue.{LimitValue}

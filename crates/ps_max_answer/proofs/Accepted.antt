@@ -1,10 +1,10 @@
 -- Answers that a search for an optimum may give.
-use Rattle.std.proofs.Common.{◌≡◌, ℕ, suc, ◌==◌, ℤ, pos, ◌+ℤ◌, Bool, true, false, None, List, [], ◌∷◌, refl}
+use Rattle.std.proofs.Common.{◌≡◌, ℕ, suc, ◌==◌, ℤ, pos, ◌+ℤ◌, Bool, true, false, None, List, [], ◌∷◌, length, refl}
 use Rattle.std.specs.List.{list_all}
 use Rattle.std.specs.Ordering.{int_eq}
 use Rattle.std.proofs.lemmas.Bool.{eq-eqb}
 use Rattle.std.proofs.lemmas.Bool.Decides.{Decides-int_eq}
-use Rattle.ps_pb.specs.Steps.{Step}
+use Rattle.ps_pb.specs.declared.step.Step.{Step}
 use Rattle.ps_pb.proofs.Onward.{lawful-none}
 use Rattle.ps_clause.specs.Clauses.{Clause, meets}
 use Rattle.ps_clause.specs.Forms.{first_known}
@@ -31,7 +31,8 @@ all-met w n (c ∷ cs) h = by_bool (meets w c)
 
 run-none : (t : WcnfText) (least : ℤ) (steps : List Step) → RefutesValue t least steps → steps_fault t least steps ≡ None
 run-none t least steps h =
-    rw (lawful-none (form_of t).variables (first_known (form_of t) (goal_of t least)) steps h.lawful, h.contradiction) refl
+    let known = first_known (form_of t) (goal_of t least) in
+    rw (lawful-none (form_of t).variables (length known) known steps h.lawful, h.contradiction) refl
 
 assignment-none : (t : WcnfText) (c : ℤ) (w : List Bool) → IsAllowed t w → c ≡ cost w t.soft → assignment_fault t c w ≡ None
 assignment-none t c w allowed is =

@@ -1,7 +1,8 @@
 -- The run of an answer's steps.
 use Rattle.std.proofs.Common.{◌≡◌, ℕ, ℤ, ◌-ℤ◌, Bool, true, false, Option, Some, None, List, refl, ap}
 use Rattle.ps_pb.specs.Constraints.{Constraint}
-use Rattle.ps_pb.specs.Steps.{Step, first_refusal}
+use Rattle.ps_pb.specs.Steps.{first_refusal, ends_in_contradiction}
+use Rattle.ps_pb.specs.declared.step.Step.{Step}
 use Rattle.ps_pb.specs.declared.refused.StepRefused.{StepRefused as Why}
 use Rattle.ps_pb.specs.Weights.{Weighted, constraint_of}
 use Rattle.ps_clause.specs.Forms.{Form, first_known}
@@ -18,6 +19,10 @@ goal-is t ts x least e f = rw (e, f) refl
 pub run-is : (t : WcnfText) (least : ℤ) (steps : List Step) (first : Checked) (form : Form) (goal : Constraint) (found : Option (ℕ × Why)) → first ≡ first_checked form goal → form ≡ form_of t → goal ≡ goal_of t least
     → found ≡ first_refused_by first steps → found ≡ first_refusal (form_of t).variables (first_known (form_of t) (goal_of t least)) steps
 run-is t least steps first form goal found e f g h = rw (e, f, g) at h
+
+pub ends-is : (t : WcnfText) (least : ℤ) (steps : List Step) (first : Checked) (form : Form) (goal : Constraint) (ends : Bool) → first ≡ first_checked form goal → form ≡ form_of t → goal ≡ goal_of t least
+    → ends ≡ ends_in_contradiction first.known steps → ends ≡ ends_in_contradiction (first_known (form_of t) (goal_of t least)) steps
+ends-is t least steps first form goal ends e f g h = rw (e, f, g) at h
 
 pub fault-some : (o : Option (ℕ × Why)) (ends : Bool) (id : ℕ) (why : Why) → Some (id, why) ≡ o → Some (StepRefused id why) ≡ run_fault o ends
 fault-some o ends id why h = ap (λ x. run_fault x ends) h

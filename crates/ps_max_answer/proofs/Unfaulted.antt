@@ -4,7 +4,8 @@ use Rattle.std.specs.List.{list_all}
 use Rattle.std.specs.Ordering.{int_eq}
 use Rattle.std.proofs.lemmas.Bool.{eqb-true}
 use Rattle.std.proofs.lemmas.Bool.Decides.{Decides-int_eq}
-use Rattle.ps_pb.specs.Steps.{Step, Known, Refutes, first_refusal, ends_in_contradiction}
+use Rattle.ps_pb.specs.Steps.{Known, Refutes, first_refusal, ends_in_contradiction}
+use Rattle.ps_pb.specs.declared.step.Step.{Step}
 use Rattle.ps_pb.specs.declared.refused.StepRefused.{StepRefused as Why}
 use Rattle.ps_pb.proofs.Onward.{none-lawful}
 use Rattle.ps_clause.specs.Clauses.{Clause, meets}
@@ -44,10 +45,10 @@ assignment-right t c w e = by_bool (length w == t.variables)
     })
     (λ other. let some : Some WrongShape ≡ None = rw other at e in cc)
 
-run-right : (v : ℕ) (known : Known) (steps : List Step) (o : Option (ℕ × Why)) (ends : Bool) → o ≡ first_refusal v known steps → ends ≡ ends_in_contradiction steps
+run-right : (v : ℕ) (known : Known) (steps : List Step) (o : Option (ℕ × Why)) (ends : Bool) → o ≡ first_refusal v known steps → ends ≡ ends_in_contradiction known steps
     → run_fault o ends ≡ None → Refutes v known steps
 run-right v known steps (Some refused) ends e f none = cc
-run-right v known steps None true e f none = record { lawful = none-lawful v known steps (sym e); contradiction = sym f }
+run-right v known steps None true e f none = record { lawful = none-lawful v (length known) known steps (sym e); contradiction = sym f }
 run-right v known steps None false e f none = cc
 
 fault-none : (o later : Option MaxError) → fault_or o later ≡ None → (o ≡ None) × (later ≡ None)
@@ -59,10 +60,10 @@ unfaulted t (Optimum c w steps) weighed e =
     let r = fault-none (assignment_fault t c w) (steps_fault t (pos 2 +ℤ gain w t.soft) steps) e in
     let right = assignment-right t c w r.0 in
     let known : Known = first_known (form_of t) (goal_of t (pos 2 +ℤ gain w t.soft)) in
-    let refutes = run-right (form_of t).variables known steps (first_refusal (form_of t).variables known steps) (ends_in_contradiction steps) refl refl r.1 in
+    let refutes = run-right (form_of t).variables known steps (first_refusal (form_of t).variables known steps) (ends_in_contradiction known steps) refl refl r.1 in
     subst (IsOptimum t w) (sym right.is) (optimal t w steps weighed right.allowed refutes)
 unfaulted t (Unsatisfiable steps) weighed e =
     let known : Known = first_known (form_of t) (goal_of t (pos 1)) in
-    let refutes = run-right (form_of t).variables known steps (first_refusal (form_of t).variables known steps) (ends_in_contradiction steps) refl refl e in
+    let refutes = run-right (form_of t).variables known steps (first_refusal (form_of t).variables known steps) (ends_in_contradiction known steps) refl refl e in
     none-allowed t steps weighed refutes
 unfaulted t (Open limit goal steps best) weighed e = tt

@@ -2,7 +2,8 @@
 use Rattle.std.specs.Prelude.{ℕ, suc, ◌≡◌, ◌==◌, ℤ, pos, ◌+ℤ◌, Bool, true, false, if◌then◌else◌, Option, Some, None, Result, Ok}
 use Rattle.std.specs.Prelude.{Err, List, [], ◌∷◌, length}
 use Rattle.std.specs.Ordering.{int_eq}
-use Rattle.ps_pb.specs.Steps.{Step, first_refusal, ends_in_contradiction}
+use Rattle.ps_pb.specs.Steps.{first_refusal, ends_in_contradiction}
+use Rattle.ps_pb.specs.declared.step.Step.{Step}
 use Rattle.ps_pb.specs.declared.refused.StepRefused.{StepRefused as Why}
 use Rattle.ps_clause.specs.Clauses.{Clause, meets}
 use Rattle.ps_clause.specs.Forms.{first_known}
@@ -49,7 +50,7 @@ run_fault None false = Some NotRefuted
 abbrev pub steps_fault : WcnfText → ℤ → List Step → Option MaxError
 steps_fault t least steps =
     run_fault (first_refusal (form_of t).variables (first_known (form_of t) (goal_of t least)) steps)
-    (ends_in_contradiction steps)
+    (ends_in_contradiction (first_known (form_of t) (goal_of t least)) steps)
 
 -- a reason, or else what comes later
 abbrev pub fault_or : Option MaxError → Option MaxError → Option MaxError

@@ -1,7 +1,8 @@
 -- What is answered where an optimum is looked for.
 use Rattle.std.specs.Prelude.{ℕ, ◌≡◌, ℤ, pos, ◌+ℤ◌, Bool, List, Option, Some, None, IfSome}
 use Rattle.ps_pb.specs.Constraints.{Constraint}
-use Rattle.ps_pb.specs.Steps.{Step, Refutes}
+use Rattle.ps_pb.specs.Steps.{Refutes}
+use Rattle.ps_pb.specs.declared.step.Step.{Step}
 use Rattle.ps_clause.specs.Forms.{first_known}
 use Rattle.ps_clause.specs.Spent.{IsSpentSearch}
 use Rattle.ps_wcnf.specs.Costs.{cost, gain, IsAllowed, IsOptimum, NoneIsAllowed}

@@ -15,7 +15,7 @@ pub enum MaxError {
     /// The cost isn't the assignment's.
     #[error("the cost is not that of the assignment")]
     CostWrong,
-    /// The first step that isn't lawful, by its id, and why it isn't.
+    /// The first step that isn't lawful, by its number, and why it isn't.
     #[error("the step {step} is refused")]
     StepRefused { step: u64, why: StepRefused },
     /// The steps are lawful, and the last is no contradiction.

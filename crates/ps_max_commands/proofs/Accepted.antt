@@ -11,7 +11,7 @@ use Rattle.std.proofs.lemmas.Slice.Eq.{bytes_eq-Decides}
 use Rattle.ps_clause.proofs.Tidy.{by_bool}
 use Rattle.ps_io.specs.LineText.{lines_bytes}
 use Rattle.ps_log.specs.FirstLines.{IsOneLine}
-use Rattle.ps_log.proofs.StepShapes.{head, tail}
+use Rattle.ps_log.proofs.ClauseShapes.{head, tail}
 use Rattle.ps_wcnf.specs.Readings.{no_text, with_line, IsRead}
 use Rattle.ps_wcnf.specs.Spelling.{Line, Nothing, line_of, line_of_words}
 use Rattle.ps_wcnf.specs.Splitting.{lines_of, words_of, without_return, ended_lines, IsEndedLine}

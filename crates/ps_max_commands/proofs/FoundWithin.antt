@@ -3,7 +3,8 @@ use Rattle.std.proofs.Common.{◌≡◌, ℕ, ◌≤◌, ℤ, pos, ◌+ℤ◌, B
 use Rattle.std.proofs.lemmas.Int.{ints}
 use Rattle.std.proofs.lemmas.List.{take_all}
 use Rattle.ps_log.specs.declared.limits.TheConstants.{MOST_CONFLICTS}
-use Rattle.ps_pb.specs.Steps.{Step, AreLawful}
+use Rattle.ps_pb.specs.Steps.{AreLawful}
+use Rattle.ps_pb.specs.declared.step.Step.{Step}
 use Rattle.ps_clause.specs.Forms.{first_known}
 use Rattle.ps_wcnf.specs.Costs.{cost, gain, IsAllowed}
 use Rattle.ps_wcnf.specs.Laws.{IsWeighed}

@@ -7,7 +7,7 @@ use Rattle.std.proofs.lemmas.Int.{ints}
 use Rattle.std.proofs.lemmas.List.Elements.{All-nil, All-cons, All-head, All-tail}
 use Rattle.std.proofs.lemmas.Option.{none-some, same_Some}
 use Rattle.ps_clause.proofs.Tidy.{by_bool}
-use Rattle.ps_log.proofs.StepShapes.{head, tail}
+use Rattle.ps_log.proofs.ClauseShapes.{head, tail}
 use Rattle.ps_wcnf.specs.Costs.{Soft as SoftClause}
 use Rattle.ps_wcnf.specs.Limits.{IsWithin, last_in, weight_sum}
 use Rattle.ps_wcnf.specs.Readings.{no_text, with_line, IsRead, IsAtFault, IsFirstAtFault}

@@ -11,7 +11,7 @@ use Rattle.std.proofs.lemmas.List.Folds.{list_all-append}
 use Rattle.std.proofs.lemmas.Option.{none-some}
 use Rattle.std.proofs.lemmas.Slice.Eq.{bytes_eq-Decides}
 use Rattle.ps_clause.proofs.Tidy.{by_bool}
-use Rattle.ps_log.proofs.StepShapes.{head, tail}
+use Rattle.ps_log.proofs.ClauseShapes.{head, tail}
 use Rattle.ps_wcnf.specs.Spelling.{Line, line_of, line_of_words, is_comment, is_count, is_literal, literal_of, literals_in, with_first}
 use Rattle.ps_wcnf.specs.Splitting.{is_blank, has_bytes, words_of, ends_with_return, without_return}
 

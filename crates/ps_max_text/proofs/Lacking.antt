@@ -3,7 +3,7 @@ use Rattle.std.proofs.Common.{◌≡◌, ℕ, false, List, [], ◌∷◌, ◌++�
 use Rattle.std.specs.List.{AllByRecursion}
 use Rattle.ps_io.specs.LineText.{lines_bytes}
 use Rattle.ps_log.specs.FirstLines.{IsOneLine}
-use Rattle.ps_pb.specs.Steps.{Step}
+use Rattle.ps_pb.specs.declared.step.Step.{Step}
 use Rattle.ps_answer.specs.declared.error.ReportError.TheVariants.{NoMemory}
 use Rattle.ps_max_text.specs.Parts.{behind}
 use Rattle.ps_max_text.specs.Faults.{AreLines, IsLackingLine}

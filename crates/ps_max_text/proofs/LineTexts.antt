@@ -7,7 +7,7 @@ use Rattle.ps_log.specs.Spellings.{words_of}
 use Rattle.ps_log.specs.Texts.{with_numbers}
 use Rattle.ps_log.proofs.Reading.{Small}
 use Rattle.ps_log.proofs.LineAnswers.{spaced, line-joined, written-line, written-words}
-use Rattle.ps_log.proofs.StepAnswers as steps
+use Rattle.ps_log.proofs.StepWords.{step-text-is-line}
 use Rattle.ps_log.proofs.GoalAnswers as goals
 use Rattle.ps_answer.proofs.OneItem.{numbers_spelled}
 use Rattle.ps_answer.specs.Words.{Word, Letters, Number, Truths, SpellWords, world_text}
@@ -71,7 +71,7 @@ line_written l line.Unsatisfiable h w = numbers 117 (codes "nsatisfiable") l [] 
 line_written l (line.OpenConflicts n m) h w = conflicts l (pos n ∷ pos m ∷ []) h.words (small_two (pos n) (pos m) (small_count n (2 ^ 40) w.0 (omega arith)) (small_count m (2 ^ 41) w.1 (omega arith)))
 line_written l (line.Values v) h w = values l v (words_of l) refl h.words
 line_written l (line.LogHead n) h w = numbers 108 (codes "og") l (pos n ∷ []) h.words (small_one (pos n) (small_count n (2 ^ 41) w (omega arith)))
-line_written l (line.StepLine s) h w = steps.text-is-line l s (step_text l s h) w ∙ sym (step_said s)
+line_written l (line.StepLine s) h w = step-text-is-line l s (step_text l s h) w ∙ sym (step_said s)
 line_written l (line.GoalLine g) h w = goals.text-is-line l g (goal_text l g h) w ∙ sym (goal_said g)
 line_written l line.NoBest h w = no_best l h.words
 line_written l (line.Best c) h w = numbers 98 (codes "est") l (c ∷ []) h.words (small_one c (small_cost c h.proper w))

@@ -2,14 +2,16 @@
 use Rattle.std.proofs.Common.{◌≡◌, ℕ, suc, ◌==◌, ◌<◌, ℤ, pos, negsuc, Bool, true, false, List, [], ◌∷◌, length, map, refl, sym, ap, subst, ◌∙◌, arith, unsigned_abs}
 use Rattle.std.specs.Prelude.{if◌then◌else◌, codes}
 use Rattle.std.specs.Char.{digit_value}
-use Rattle.ps_pb.specs.Steps.{Step}
+use Rattle.ps_pb.specs.declared.step.Step.{Step}
+use Rattle.ps_pb.specs.declared.step.Step.TheVariants.{Clause, Delete, Add, Multiply, Divide, Saturate}
 use Rattle.ps_pb.specs.Constraints.{Constraint}
 use Rattle.ps_pb.specs.Weights.{weighted}
 use Rattle.ps_log.specs.Spellings.{Spells, words_of}
-use Rattle.ps_log.specs.Texts.{step_numbers, goal_numbers}
+use Rattle.ps_log.specs.Texts.{letter_of, numbers_of, goal_numbers}
 use Rattle.ps_log.specs.Told.{number_of, step_of, goal_of}
 use Rattle.ps_log.proofs.Spelled.{value_of_spelling}
-use Rattle.ps_log.proofs.LineShapes.{text-step, text-goal}
+use Rattle.ps_log.proofs.LineShapes.{text-goal}
+use Rattle.ps_log.proofs.StepsTold.{text-step}
 use Rattle.ps_answer.specs.Words.{Word, Number, SpellWords, world_text, digit_of}
 use Rattle.ps_answer.proofs.OneItem.{world_in, step_in, goal_in, under, at, numbers_spelled}
 use Rattle.ps_max_text.specs.declared.item.MaxItem.{MaxItem}
@@ -85,13 +87,18 @@ item_in text w ws = under (
     ∷ (codes "v", Values (world_in (at ws 0)))
     ∷ (codes "log", LogHead (size_of (at ws 0)))
     ∷ (codes "s", StepLine (step_in (step_of text)))
+    ∷ (codes "d", StepLine (step_in (step_of text)))
+    ∷ (codes "a", StepLine (step_in (step_of text)))
+    ∷ (codes "m", StepLine (step_in (step_of text)))
+    ∷ (codes "v", StepLine (step_in (step_of text)))
+    ∷ (codes "u", StepLine (step_in (step_of text)))
     ∷ (codes "g", GoalLine (goal_in (goal_of text)))
     ∷ (codes "best", best_in (at ws 0))
     ∷ []) End w
 
-step_is : (text : List ℕ) (ws : List (List ℕ)) (s : Step) → words_of text ≡ (115 ∷ []) ∷ ws → SpellWords ws (map Number (step_numbers s.id s.lits s.hints)) → IsProper (StepLine s)
+step_is : (text : List ℕ) (ws : List (List ℕ)) (s : Step) → words_of text ≡ (letter_of s ∷ []) ∷ ws → SpellWords ws (map Number (numbers_of s)) → IsProper (StepLine s)
     → step_in (step_of text) ≡ s
-step_is text ws s e h p = ap step_in (text-step text s (record { spellings = ws; words = e; spelled = numbers_spelled ws (step_numbers s.id s.lits s.hints) h; nonzero = p }))
+step_is text ws s e h p = ap step_in (text-step text s (record { spellings = ws; words = e; spelled = numbers_spelled ws (numbers_of s) h; canonical = p }))
 
 goal_is : (text : List ℕ) (ws : List (List ℕ)) (g : Constraint) → words_of text ≡ (103 ∷ []) ∷ ws → SpellWords ws (map Number (goal_numbers g.degree (weighted g.terms))) → IsProper (GoalLine g)
     → goal_in (goal_of text) ≡ g
@@ -108,7 +115,12 @@ item_is text w (k ∷ a ∷ b ∷ ws) (OpenConflicts limit n) e s p =
     ap (λ x. item_in text x (k ∷ a ∷ b ∷ ws)) s.0 ∙ ap (λ x. OpenConflicts x (size_of b)) (size_is a limit s.1.1.0) ∙ ap (OpenConflicts limit) (size_is b n s.1.1.1.0)
 item_is text w (a ∷ ws) (Values v) e s p = ap (λ x. item_in text x (a ∷ ws)) s.0 ∙ ap Values (world_is a v s.1.0)
 item_is text w (a ∷ ws) (LogHead n) e s p = ap (λ x. item_in text x (a ∷ ws)) s.0 ∙ ap LogHead (size_is a n s.1.0)
-item_is text w ws (StepLine t) e s p = ap (λ x. item_in text x ws) s.0 ∙ ap StepLine (step_is text ws t (e ∙ ap (λ x. x ∷ ws) s.0) s.1 p)
+item_is text w ws (StepLine (Clause i ls hs)) e s p = ap (λ x. item_in text x ws) s.0 ∙ ap StepLine (step_is text ws (Clause i ls hs) (e ∙ ap (λ x. x ∷ ws) s.0) s.1 p)
+item_is text w ws (StepLine (Delete i)) e s p = ap (λ x. item_in text x ws) s.0 ∙ ap StepLine (step_is text ws (Delete i) (e ∙ ap (λ x. x ∷ ws) s.0) s.1 p)
+item_is text w ws (StepLine (Add i j k)) e s p = ap (λ x. item_in text x ws) s.0 ∙ ap StepLine (step_is text ws (Add i j k) (e ∙ ap (λ x. x ∷ ws) s.0) s.1 p)
+item_is text w ws (StepLine (Multiply i j k)) e s p = ap (λ x. item_in text x ws) s.0 ∙ ap StepLine (step_is text ws (Multiply i j k) (e ∙ ap (λ x. x ∷ ws) s.0) s.1 p)
+item_is text w ws (StepLine (Divide i j k)) e s p = ap (λ x. item_in text x ws) s.0 ∙ ap StepLine (step_is text ws (Divide i j k) (e ∙ ap (λ x. x ∷ ws) s.0) s.1 p)
+item_is text w ws (StepLine (Saturate i j)) e s p = ap (λ x. item_in text x ws) s.0 ∙ ap StepLine (step_is text ws (Saturate i j) (e ∙ ap (λ x. x ∷ ws) s.0) s.1 p)
 item_is text w ws (GoalLine g) e s p = ap (λ x. item_in text x ws) s.0 ∙ ap GoalLine (goal_is text ws g (e ∙ ap (λ x. x ∷ ws) s.0) s.1 p)
 item_is text w (a ∷ ws) NoBest e s p = ap (λ x. item_in text x (a ∷ ws)) s.0 ∙ ap best_in s.1.0
 item_is text w (a ∷ ws) (Best cost) e s p = ap (λ x. item_in text x (a ∷ ws)) s.0 ∙ best_is a cost s.1.0

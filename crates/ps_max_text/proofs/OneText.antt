@@ -4,6 +4,7 @@ use Rattle.std.specs.Prelude.{bytes_eq}
 use Rattle.std.specs.List.{AllByRecursion, list_any}
 use Rattle.std.proofs.lemmas.Option.{none-some, same_Some}
 use Rattle.ps_io.specs.LineText.{lines_bytes}
+use Rattle.ps_pb.specs.declared.step.Step.TheVariants.{Clause, Delete, Add, Multiply, Divide, Saturate}
 use Rattle.ps_log.specs.Spellings.{words_of}
 use Rattle.ps_log.specs.FirstLines.{IsOneLine, IsFirstLine}
 use Rattle.ps_answer.specs.declared.error.LineKind.{LineKind}
@@ -54,7 +55,12 @@ opening_due Answer line.Unsatisfiable due next e = refl
 opening_due Answer (line.OpenConflicts limit n) due next e = refl
 opening_due Values (line.Values w) due next e = refl
 opening_due Log (line.LogHead n) due next e = refl
-opening_due Step (line.StepLine s) due next e = refl
+opening_due Step (line.StepLine (Clause i ls hs)) due next e = refl
+opening_due Step (line.StepLine (Delete i)) due next e = refl
+opening_due Step (line.StepLine (Add i j k)) due next e = refl
+opening_due Step (line.StepLine (Multiply i j k)) due next e = refl
+opening_due Step (line.StepLine (Divide i j k)) due next e = refl
+opening_due Step (line.StepLine (Saturate i j)) due next e = refl
 opening_due Goal (line.GoalLine g) due next e = refl
 opening_due Best line.NoBest due next e = refl
 opening_due Best (line.Best cost) due next e = refl

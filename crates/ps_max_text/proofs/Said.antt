@@ -8,18 +8,20 @@ use Rattle.std.proofs.lemmas.List.{map-append}
 use Rattle.std.proofs.lemmas.List.Elements.{All-nil, All-cons, All-head, All-tail}
 use Rattle.ps_io.specs.LineText.{lines_bytes}
 use Rattle.ps_pb.specs.Constraints.{Constraint}
-use Rattle.ps_pb.specs.Steps.{Step}
+use Rattle.ps_pb.specs.declared.step.Step.{Step}
 use Rattle.ps_pb.specs.Weights.{weighted}
 use Rattle.ps_log.specs.FirstLines.{IsOneLine}
 use Rattle.ps_log.specs.Limits.{IsStepWithin, IsGoalWithin}
 use Rattle.ps_log.specs.Spellings.{words_of}
-use Rattle.ps_log.specs.Texts.{step_numbers, goal_numbers, step_line, goal_line}
+use Rattle.ps_log.specs.Texts.{letter_of, numbers_of, goal_numbers, step_line, goal_line}
 use Rattle.ps_log.proofs.Reading.{Small, step_small, goal_small}
-use Rattle.ps_log.proofs.StepShapes.{first_in, rest_in}
+use Rattle.ps_log.proofs.StepWords.{within-canonical}
+use Rattle.ps_log.proofs.ClauseShapes.{first_in, rest_in}
 use Rattle.ps_report.proofs.Made.{number_words}
 use Rattle.ps_answer.specs.Items.{count}
 use Rattle.ps_answer.specs.Words.{Letters, Number, Truths, SpellWords, joined}
 use Rattle.ps_answer.proofs.Written.{IsWordSmall, written_both}
+use Rattle.ps_answer.proofs.WrittenItems.{letter_clean}
 use Rattle.ps_max_answer.specs.declared.answer.MaxAnswer.{MaxAnswer}
 use Rattle.ps_max_answer.specs.declared.answer.MaxAnswer.TheVariants as answer
 use Rattle.ps_max_text.specs.declared.item.MaxItem.{MaxItem}
@@ -37,7 +39,7 @@ head_said : item_line Head ≡ codes "maxsat 1"
 head_said = let one : decimal 1 ≡ 49 ∷ [] = decimal_digit 1 (omega arith) in ap (λ (ds : List ℕ). codes "maxsat" ++ 32 ∷ ds) one
 
 pub step_said : (s : Step) → item_line (StepLine s) ≡ step_line s
-step_said s = unfold step_line in number_words (115 ∷ []) (step_numbers s.id s.lits s.hints)
+step_said s = unfold step_line in number_words (letter_of s ∷ []) (numbers_of s)
 
 pub goal_said : (g : Constraint) → item_line (GoalLine g) ≡ goal_line g
 goal_said g = unfold goal_line in number_words (103 ∷ []) (goal_numbers g.degree (weighted g.terms))
@@ -79,7 +81,7 @@ both_fit [] js h k = k
 both_fit (i ∷ is) js h k = (h.0, both_fit is js h.1 k)
 
 step_fit : (s : Step) → IsStepWithin s → IsFit (StepLine s)
-step_fit s h = (λ i d l. (h.lits i d l).0, h)
+step_fit s h = (within-canonical s h, h)
 
 steps_fit : (steps : List Step) → AllByRecursion IsStepWithin steps → AllByRecursion IsFit (map StepLine steps)
 steps_fit [] h = tt
@@ -130,7 +132,7 @@ written (OpenConflicts limit n) p w =
     written_both (codes "open") (Letters (codes "conflicts") ∷ count limit ∷ count n ∷ []) (omega arith, refl) (refl, ((let a = w.0 in omega (arith, a)), ((let b = w.1 in omega (arith, b)), tt)))
 written (Values v) p w = written_both (codes "v") (Truths v ∷ []) (omega arith, refl) (tt, tt)
 written (LogHead n) p w = written_both (codes "log") (count n ∷ []) (omega arith, refl) (omega (arith, w), tt)
-written (StepLine s) p w = written_both (codes "s") (map Number (step_numbers s.id s.lits s.hints)) (omega arith, refl) (numbers_small (step_numbers s.id s.lits s.hints) (step_small s w))
+written (StepLine s) p w = written_both (letter_of s ∷ []) (map Number (numbers_of s)) (letter_clean s) (numbers_small (numbers_of s) (step_small s w))
 written (GoalLine g) p w = written_both (codes "g") (map Number (goal_numbers g.degree (weighted g.terms))) (omega arith, refl) (numbers_small (goal_numbers g.degree (weighted g.terms)) (goal_small g w))
 written NoBest p w = written_both (codes "best") (Letters (codes "none") ∷ []) (omega arith, refl) (refl, tt)
 written (Best cost) p w = written_both (codes "best") (Number cost ∷ []) (omega arith, refl) (cost_small cost p w, tt)

@@ -6,7 +6,7 @@ use Rattle.std.proofs.lemmas.Fmt.{length-decimal-le_wide}
 use Rattle.std.proofs.lemmas.Int.{ints}
 use Rattle.std.proofs.lemmas.List.{length-map}
 use Rattle.ps_io.proofs.WordLemmas.{length-with_word}
-use Rattle.ps_pb.specs.Steps.{Step}
+use Rattle.ps_pb.specs.declared.step.Step.{Step}
 use Rattle.ps_log.specs.Limits.{IsStepWithin}
 use Rattle.ps_log.specs.Texts.{step_line, with_number, with_numbers}
 use Rattle.ps_log.proofs.Lengths.{step_is_short, goal_is_short}

@@ -1,14 +1,14 @@
 -- Lines of steps and goals, as they are read.
 use Rattle.std.proofs.Common.{◌≡◌, ℕ, Bool, List, [], ◌∷◌, Result, Ok, Err, refl, sym, ap, subst, ◌∙◌, true≢false, ◌⊎◌, inl, inr}
 use Rattle.std.specs.List.{list_all}
-use Rattle.ps_pb.specs.Steps.{Step}
+use Rattle.ps_pb.specs.declared.step.Step.{Step}
 use Rattle.ps_pb.specs.Constraints.{Constraint}
 use Rattle.ps_pb.specs.Weights.{weighted}
 use Rattle.ps_log.specs.FirstLines.{IsFirstLine, IsFirstLineOf, IsRefused, IsAnswer}
 use Rattle.ps_log.specs.StepTexts.{IsStepText, IsStepAnswer}
 use Rattle.ps_log.specs.GoalTexts.{IsGoalText, IsGoalAnswer}
 use Rattle.ps_log.specs.Limits.{IsStepWithin, IsGoalWithin}
-use Rattle.ps_log.specs.Texts.{step_numbers, goal_numbers}
+use Rattle.ps_log.specs.Texts.{letter_of, numbers_of, goal_numbers}
 use Rattle.ps_log.specs.Spellings.{words_of}
 use Rattle.ps_log.specs.declared.line_error.LineError.{LineError}
 use Rattle.ps_log.specs.declared.line_error.LineError.TheVariants as why
@@ -70,8 +70,8 @@ module _ {X : Type 0} {fits : ℕ → Bool} {IsText : List ℕ → X → Type 0}
 step_kind : IsKind IsStepText IsStepWithin (λ s. line.StepLine s) part.Step
 unfolding behind
 step_kind = record {
-  said = λ text s h. record { spelled = subst (λ ws. SpellWords ws (item_words (line.StepLine s))) (sym h.words) (refl, spelled_numbers h.spellings (step_numbers s.id s.lits s.hints) h.spelled); proper = h.nonzero };
-  text = λ text s h. let w = lettered (words_of text) (115 ∷ []) (step_numbers s.id s.lits s.hints) h.spelled in record { spellings = w.spellings; words = w.words; spelled = w.spelled; nonzero = h.proper };
+  said = λ text s h. record { spelled = subst (λ ws. SpellWords ws (item_words (line.StepLine s))) (sym h.words) (refl, spelled_numbers h.spellings (numbers_of s) h.spelled); proper = h.canonical };
+  text = λ text s h. let w = lettered (words_of text) (letter_of s ∷ []) (numbers_of s) h.spelled in record { spellings = w.spellings; words = w.words; spelled = w.spelled; canonical = h.proper };
   within = λ s h. h;
   back = λ s h. h;
   fits = λ s due. (due, refl);

@@ -3,7 +3,7 @@ use Rattle.std.proofs.Common.{◌≡◌, ◌≢◌, ℕ, zero, suc, ◌+◌, ◌
 use Rattle.std.proofs.lemmas.Option.{none-some, same_Some}
 use Rattle.ps_io.specs.LineText.{lines_bytes}
 use Rattle.ps_log.specs.FirstLines.{IsOneLine}
-use Rattle.ps_pb.specs.Steps.{Step}
+use Rattle.ps_pb.specs.declared.step.Step.{Step}
 use Rattle.ps_answer.specs.declared.error.LineKind.{LineKind}
 use Rattle.ps_answer.specs.declared.error.LineKind.TheVariants.{MoreAfterEnd}
 use Rattle.ps_answer.specs.declared.error.ReportError.{ReportError}

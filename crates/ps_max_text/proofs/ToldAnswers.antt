@@ -1,7 +1,7 @@
 -- An answer is told by what its lines say.
 use Rattle.std.proofs.Common.{◌≡◌, ℕ, ℤ, Bool, List, [], ◌∷◌, ◌++◌, length, map, Option, None, Some, refl, sym, ap, ◌∙◌, append_assoc, arith}
-use Rattle.ps_pb.specs.Steps.{Step}
-use Rattle.ps_log.proofs.StepShapes.{head, tail}
+use Rattle.ps_pb.specs.declared.step.Step.{Step}
+use Rattle.ps_log.proofs.ClauseShapes.{head, tail}
 use Rattle.ps_max_answer.specs.declared.answer.MaxAnswer.{MaxAnswer}
 use Rattle.ps_max_answer.specs.declared.answer.MaxAnswer.TheVariants as answer
 use Rattle.ps_max_text.specs.declared.item.MaxItem.{MaxItem}

@@ -1,6 +1,6 @@
 -- What the lines of an answer say.
 use Rattle.std.specs.Prelude.{ℤ, Bool, Option, Some, None, List, [], ◌∷◌, ◌++◌, length, map}
-use Rattle.ps_pb.specs.Steps.{Step}
+use Rattle.ps_pb.specs.declared.step.Step.{Step}
 use Rattle.ps_max_answer.specs.declared.answer.MaxAnswer.{MaxAnswer}
 use Rattle.ps_max_answer.specs.declared.answer.MaxAnswer.TheVariants as answer
 use Rattle.ps_max_text.specs.declared.item.MaxItem.{MaxItem}

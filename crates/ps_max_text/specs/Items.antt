@@ -1,9 +1,10 @@
 -- What the lines of an answer's text say, and their words.
-use Rattle.std.specs.Prelude.{ℕ, ◌≡◌, ◌≤◌, ◌^◌, pos, ◌≤ℤ◌, true, List, [], ◌∷◌, map, All, length, unsigned_abs, codes, ⊤}
+use Rattle.std.specs.Prelude.{ℕ, ◌≡◌, ◌≤◌, ◌^◌, pos, ◌≤ℤ◌, true, List, [], ◌∷◌, map, All, length, codes, ⊤}
 use Rattle.ps_pb.specs.Weights.{weighted, are_rising}
 use Rattle.ps_log.specs.Limits.{IsStepWithin, IsGoalWithin}
 use Rattle.ps_log.specs.Spellings.{words_of}
-use Rattle.ps_log.specs.Texts.{step_numbers, goal_numbers}
+use Rattle.ps_log.specs.StepTexts.{IsCanonical}
+use Rattle.ps_log.specs.Texts.{letter_of, numbers_of, goal_numbers}
 use Rattle.ps_log.specs.declared.limits.TheConstants.{MOST_CONFLICTS}
 use Rattle.ps_answer.specs.Items.{count}
 use Rattle.ps_answer.specs.Words.{Word, Letters, Number, Truths, SpellWords}
@@ -19,7 +20,7 @@ item_words Unsatisfiable = Letters (codes "unsatisfiable") ∷ []
 item_words (OpenConflicts limit n) = Letters (codes "open") ∷ Letters (codes "conflicts") ∷ count limit ∷ count n ∷ []
 item_words (Values w) = Letters (codes "v") ∷ Truths w ∷ []
 item_words (LogHead n) = Letters (codes "log") ∷ count n ∷ []
-item_words (StepLine s) = Letters (codes "s") ∷ map Number (step_numbers s.id s.lits s.hints)
+item_words (StepLine s) = Letters (letter_of s ∷ []) ∷ map Number (numbers_of s)
 item_words (GoalLine g) = Letters (codes "g") ∷ map Number (goal_numbers g.degree (weighted g.terms))
 item_words NoBest = Letters (codes "best") ∷ Letters (codes "none") ∷ []
 item_words (Best cost) = Letters (codes "best") ∷ Number cost ∷ []
@@ -29,7 +30,7 @@ item_words End = Letters (codes "end") ∷ []
 abbrev pub IsProper : MaxItem → Type 0
 IsProper (Optimum cost) = pos 0 ≤ℤ cost
 IsProper (Best cost) = pos 0 ≤ℤ cost
-IsProper (StepLine s) = All (λ l. 1 ≤ unsigned_abs l) s.lits
+IsProper (StepLine s) = IsCanonical s
 IsProper (GoalLine g) = All (λ t. 1 ≤ t.1) g.terms × (are_rising 0 (weighted g.terms) ≡ true)
 IsProper i = ⊤
 

@@ -61,7 +61,14 @@ fn is_due(part: MaxPart, word: &[u8]) -> bool
         }
         MaxPart::Values => is(word, b"v"),
         MaxPart::Log => is(word, b"log"),
-        MaxPart::Step => is(word, b"s"),
+        MaxPart::Step => {
+            is(word, b"s")
+                || is(word, b"d")
+                || is(word, b"a")
+                || is(word, b"m")
+                || is(word, b"v")
+                || is(word, b"u")
+        }
         MaxPart::Goal => is(word, b"g"),
         MaxPart::Best => is(word, b"best"),
         MaxPart::End => is(word, b"end"),

@@ -78,6 +78,11 @@ why_words step.BadLit = codes "bad-lit"
 why_words (step.UnknownHint n) = codes "unknown-hint " ++ decimal n
 why_words (step.HintIdle n) = codes "hint-idle " ++ decimal n
 why_words step.NoConflict = codes "no-conflict"
+why_words (step.UnknownLine n) = codes "unknown-line " ++ decimal n
+why_words step.BadFactor = codes "bad-factor"
+why_words step.NotSaturable = codes "not-saturable"
+why_words step.TooWide = codes "too-wide"
+why_words (step.CantDelete n) = codes "cant-delete " ++ decimal n
 why_words step.NoMemory = []
 
 -- what is wrong with a claim

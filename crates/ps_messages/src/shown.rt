@@ -105,6 +105,11 @@ fn why_text(alloc: Global, why: StepRefused) -> Result<String, AllocError>
         StepRefused::UnknownHint { hint } => format!(in alloc; "unknown-hint {hint}"),
         StepRefused::HintIdle { hint } => format!(in alloc; "hint-idle {hint}"),
         StepRefused::NoConflict => String::from_str(alloc, "no-conflict"),
+        StepRefused::UnknownLine { line } => format!(in alloc; "unknown-line {line}"),
+        StepRefused::BadFactor => String::from_str(alloc, "bad-factor"),
+        StepRefused::NotSaturable => String::from_str(alloc, "not-saturable"),
+        StepRefused::TooWide => String::from_str(alloc, "too-wide"),
+        StepRefused::CantDelete { line } => format!(in alloc; "cant-delete {line}"),
         StepRefused::NoMemory => Ok(String::new(alloc)),
     }
 }

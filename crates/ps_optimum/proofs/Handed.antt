@@ -8,7 +8,7 @@ use Rattle.ps_pb.proofs.Full.{values-full}
 use Rattle.ps_clause.specs.Forms.{MeetsForm}
 use Rattle.ps_clause.proofs.Values.{values-at}
 use Rattle.ps_pb.specs.Constraints.{Constraint}
-use Rattle.ps_pb.specs.Steps.{Step}
+use Rattle.ps_pb.specs.declared.step.Step.{Step}
 use Rattle.ps_maxsat.specs.declared.problem.Wcnf.{Wcnf}
 use Rattle.ps_maxsat.specs.Values.{value}
 use Rattle.ps_wcnf.specs.Costs.{cost, gain, IsAllowed, IsOptimum}

@@ -4,9 +4,13 @@ use Rattle.std.specs.Prelude.{IsTrue}
 use Rattle.std.proofs.lemmas.Int.{ints}
 use Rattle.ps_pb.specs.Assignments.{Assignment}
 use Rattle.ps_pb.specs.Constraints.{Constraint}
-use Rattle.ps_pb.specs.Steps.{Step, Refutes, is_contradiction, ends_in_contradiction}
+use Rattle.ps_pb.specs.Steps.{Known, Refutes, ends_in_contradiction}
+use Rattle.ps_pb.specs.declared.step.Step.{Step}
+use Rattle.ps_pb.specs.declared.step.Step.TheVariants.{Clause}
 use Rattle.ps_pb.specs.Weights.{Weighted, constraint_of}
+use Rattle.ps_pb.proofs.Cutting.{clause-contradictory}
 use Rattle.ps_pb.proofs.Linear.{met-weight}
+use Rattle.ps_pb.proofs.Onward.{ends-append}
 use Rattle.ps_clause.specs.Forms.{Form, first_known}
 use Rattle.ps_clause.specs.Spent.{IsSpentSearch}
 use Rattle.ps_log.specs.Logs.{Telling}
@@ -19,10 +23,8 @@ use Rattle.ps_maxsat.specs.declared.pricing.Priced.TheVariants as priced
 use Rattle.ps_maxsat.specs.Values.{value, goal_of, IsPriced, IsPricedLog}
 use Rattle.ps_optimum.specs.Searches.{Reaches, HasPriced, HasEnded}
 
-ends-so : (front : List Step) (s : Step) → is_contradiction s ≡ true → ends_in_contradiction (front ++ s ∷ []) ≡ true
-ends-so [] s h = h
-ends-so (t ∷ []) s h = h
-ends-so (t ∷ u ∷ front) s h = ends-so (u ∷ front) s h
+ends-so : (known : Known) (front : List Step) (last : ℕ) (hints : List ℕ) → ends_in_contradiction known (front ++ Clause last [] hints ∷ []) ≡ true
+ends-so known front last hints = ends-append known front (Clause last [] hints) ∙ clause-contradictory []
 
 -- the steps that a log told, where it holds these
 pub told-steps : (new : Telling) (goal : Constraint) (f : Form) (steps : List Step) (h : Handed f goal true new) → IsTrue true → new.steps ≡ Some steps → h.steps ≡ steps
@@ -33,7 +35,7 @@ pub refuted-steps : (f : Form) (goal : Constraint) (conflicts last : ℕ) (new :
     → (h : Handed f goal true new) × IsShown f goal conflicts h.steps (search.Refuted last) → Refutes f.variables (first_known f goal) steps
 refuted-steps f goal conflicts last new steps tells is h =
     let same = told-steps new goal f steps h.0 tells is in
-    rw (← same) (record { lawful = h.0.lawful; contradiction = rw h.1.2 (ends-so h.1.0 h.1.1 h.1.5) })
+    rw (← same) (record { lawful = h.0.lawful; contradiction = rw h.1.2 (ends-so (first_known f goal) h.1.0 last h.1.1) })
 
 pub spent-steps : (f : Form) (goal : Constraint) (conflicts learned : ℕ) (new : Telling) (steps : List Step) → IsTrue true → new.steps ≡ Some steps
     → (h : Handed f goal true new) × IsShown f goal conflicts h.steps (search.Spent learned) → IsSpentSearch f goal conflicts steps

@@ -1,7 +1,7 @@
 -- Answers that can be written.
-use Rattle.std.specs.Prelude.{ℕ, ◌≤◌, ◌+◌, List, length}
+use Rattle.std.specs.Prelude.{ℕ, ◌≤◌, ◌+◌, ◌/◌, List, length}
 use Rattle.ps_pb.specs.Constraints.{Constraint}
-use Rattle.ps_pb.specs.Steps.{Step}
+use Rattle.ps_pb.specs.declared.step.Step.{Step}
 use Rattle.ps_log.specs.Limits.{IsGoalWithin}
 use Rattle.ps_claims.specs.Printed.{AreOfLiterals}
 use Rattle.ps_max_answer.specs.declared.answer.MaxAnswer.{MaxAnswer}
@@ -9,9 +9,9 @@ use Rattle.ps_max_answer.specs.declared.answer.MaxAnswer.TheVariants.{Optimum, U
 use Rattle.ps_optimum.specs.declared.seeking.Sought.{Sought}
 use Rattle.ps_optimum.specs.declared.seeking.Sought.TheVariants as sought
 
--- at most one step more than clauses may be learned, each of literals
+-- at most one clause more than may be learned, and deletions of half of these, each of literals
 pub record ArePrinted (limit : ℕ) (steps : List Step) : Type 0 where
-  pub few : length steps ≤ limit + 1
+  pub few : length steps ≤ limit + limit / 2 + 1
   pub literals : AreOfLiterals steps
 
 -- the goal and the steps of what was sought can be written

@@ -2,7 +2,8 @@
 use Rattle.std.specs.Prelude.{ℕ, ◌≡◌, ◌^◌, ℤ, pos, ◌+ℤ◌, ◌≤ℤ◌, List}
 use Rattle.ps_pb.specs.Assignments.{Assignment}
 use Rattle.ps_pb.specs.Constraints.{Constraint}
-use Rattle.ps_pb.specs.Steps.{Step, Refutes}
+use Rattle.ps_pb.specs.Steps.{Refutes}
+use Rattle.ps_pb.specs.declared.step.Step.{Step}
 use Rattle.ps_clause.specs.Forms.{first_known}
 use Rattle.ps_clause.specs.Spent.{IsSpentSearch}
 use Rattle.ps_sat.specs.declared.searching.Outcome.{Outcome}

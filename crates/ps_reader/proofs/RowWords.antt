@@ -6,7 +6,7 @@ use Rattle.std.proofs.lemmas.Int.{to_z-of_z, ints}
 use Rattle.ps_log.specs.Spellings.{Spells}
 use Rattle.ps_log.proofs.Spelled.{value_of_spelling}
 use Rattle.std.proofs.lemmas.List.Elements.{All-cons}
-use Rattle.ps_log.proofs.StepShapes.{first_in, rest_in}
+use Rattle.ps_log.proofs.ClauseShapes.{first_in, rest_in}
 use Rattle.ps_answer.specs.Faults.{first_of}
 use Rattle.ps_answer.specs.Items.{IsPrintable}
 use Rattle.ps_answer.specs.Words.{Number, SpellWords}

@@ -2,7 +2,7 @@
 use Rattle.std.proofs.Common.{◌≡◌, ◌≢◌, ℕ, suc, ◌==◌, ◌<◌, ◌≤◌, Bool, true, false, List, [], ◌∷◌, All, length, map, Ok, Err, refl, sym, ap, subst, ◌∙◌, arith, inl, inr}
 use Rattle.std.specs.Prelude.{codes}
 use Rattle.std.proofs.lemmas.List.Elements.{All-cons, All-nil}
-use Rattle.ps_log.proofs.StepShapes.{first_in, rest_in}
+use Rattle.ps_log.proofs.ClauseShapes.{first_in, rest_in}
 use Rattle.ps_meaning.specs.Formula.{World}
 use Rattle.ps_answer.specs.Words.{digit_of, world_text}
 use Rattle.ps_reader.specs.Truths.{IsTruth, IsWorldRead}

@@ -188,7 +188,7 @@ one_size (Multiply id of by) k = absurd k
 one_size (Divide id of by) k = absurd k
 one_size (Saturate id of) k = absurd k
 
-steps_size : (ss : List Step) → All IsOfSearch ss → length ss ≡ clause_count ss + deletion_count ss
+pub steps_size : (ss : List Step) → All IsOfSearch ss → length ss ≡ clause_count ss + deletion_count ss
 steps_size [] k = refl
 steps_size (s ∷ ss) k = omega (arith, one_size s (All-head IsOfSearch s ss k), steps_size ss (All-tail IsOfSearch s ss k), clauses_one s ss, deletions_one s ss)
 

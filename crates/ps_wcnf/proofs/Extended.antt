@@ -6,7 +6,8 @@ use Rattle.std.proofs.lemmas.Int.{ints}
 use Rattle.std.proofs.lemmas.List.{get_or_append_left, drop_at, length-append}
 use Rattle.std.proofs.lemmas.List.Folds.{list_all-append}
 use Rattle.ps_pb.specs.Assignments.{place, is_positive, holds, agree}
-use Rattle.ps_pb.specs.Steps.{Step, Refutes}
+use Rattle.ps_pb.specs.Steps.{Refutes}
+use Rattle.ps_pb.specs.declared.step.Step.{Step}
 use Rattle.ps_pb.proofs.Onward.{refuted-unmet}
 use Rattle.ps_pb.proofs.Linear.{weight-met}
 use Rattle.ps_clause.specs.Clauses.{Clause, meets, negative}

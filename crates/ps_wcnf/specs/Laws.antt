@@ -1,6 +1,7 @@
 -- What holds of values and costs.
 use Rattle.std.specs.Prelude.{◌≡◌, pos, ◌+ℤ◌, ◌≤ℤ◌, Bool, List, ◌++◌, length, All}
-use Rattle.ps_pb.specs.Steps.{Step, Refutes}
+use Rattle.ps_pb.specs.Steps.{Refutes}
+use Rattle.ps_pb.specs.declared.step.Step.{Step}
 use Rattle.ps_clause.specs.Forms.{MeetsForm, first_known}
 use Rattle.ps_wcnf.specs.Costs.{IsAllowed, IsOptimum, NoneIsAllowed, cost, gain}
 use Rattle.ps_wcnf.specs.Limits.{HasVariables, HasLiterals, IsWeight}
