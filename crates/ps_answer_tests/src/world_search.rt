@@ -3,6 +3,7 @@
 use crate::climb::formulas_of;
 use ps_climb::Demand;
 use ps_formula::Node;
+use ps_pb::Step;
 use ps_world_search::{Ended, Refutation, Refuted, WorldSearch};
 use std::alloc::Global;
 use std::test::Fail;
@@ -41,13 +42,20 @@ fn is_against(refuted: Refuted, values: &[bool]) -> bool {
     }
 }
 
+fn is_contradiction(step: &Step) -> bool {
+    match step {
+        Step::Clause { lits, .. } => lits.as_slice().is_empty(),
+        _ => false,
+    }
+}
+
 // Whether it ended with steps of which the last one is a contradiction.
 fn is_shown(refuted: Refuted) -> bool {
     match refuted {
         Refuted::Shown(steps) => steps
             .as_slice()
             .last()
-            .is_some_and(|step| step.lits.as_slice().is_empty()),
+            .is_some_and(|step| is_contradiction(step)),
         Refuted::Against(_) | Refuted::Unfinished => false,
     }
 }

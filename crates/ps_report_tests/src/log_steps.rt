@@ -200,7 +200,16 @@ fn longer_lines_than_are_written_are_refused(rt: HostRuntime) {
 }
 
 fn has_parts(step: &Step, id: u64, lits: &[i32], hints: &[u64]) -> bool {
-    step.id == id && have_numbers(step.lits.as_slice(), lits) && step.hints.as_slice() == hints
+    match step {
+        Step::Clause {
+            id: own,
+            lits: read,
+            hints: read_hints,
+        } => {
+            *own == id && have_numbers(read.as_slice(), lits) && read_hints.as_slice() == hints
+        }
+        _ => false,
+    }
 }
 
 fn have_numbers(lits: &[Lit], numbers: &[i32]) -> bool {
