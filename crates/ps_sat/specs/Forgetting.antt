@@ -36,7 +36,8 @@ pub record IsReasonIn (es : List TrailEntry) (id : ℕ) : Type 0 where
 
 -- where the constraint of an id is a learned one of degree 1, as clauses are, it is a reason on the trail
 pub record IsUsedAt (k : Keeping) (t : Trail) (id : ℕ) : Type 0 where
-  pub used : (c : Constraint) → k.given < id → constraint_at (known_of k.known) id ≡ Some c → c.degree ≡ pos 1 → IsReasonIn t.entries id
+  pub used : (c : Constraint) → k.given < id → constraint_at (known_of k.known) id ≡ Some c → c.degree ≡ pos 1
+    → IsReasonIn t.entries id
 
 -- the learned clauses with ids below this one are all reasons on the trail
 pub record AreUsedBelow (k : Keeping) (t : Trail) (below : ℕ) : Type 0 where

@@ -16,9 +16,9 @@ use Rattle.ps_sat.specs.Scans.{AreCovered}
 use Rattle.ps_sat.specs.Rooms.{HasRoomForClauses}
 use Rattle.ps_sat.specs.Sights.{Sighting, literals_of}
 
--- known constraints over so many variables, so many of them given, the last of these the goal, the literals of a trail that have been
--- seen, each with its level, and whether propagation has come to its end since a constraint was learned. A learned clause that was
--- forgotten has the constraint that says nothing in its place
+-- known constraints over so many variables, so many of them given, the last of these the goal, the literals of a trail that have
+-- been seen, each with its level, and whether propagation has come to its end since a constraint was learned. A learned clause
+-- that was forgotten has the constraint that says nothing in its place
 pub record Keeping : Type 0 where
   pub variables : ℕ
   pub given : ℕ

@@ -34,11 +34,13 @@ filled known = map constraint_or known
 
 -- the same constraints are violated
 abbrev pub StandingConflicts : Type 0
-StandingConflicts = (cs : List Constraint) (a : Assignment) (id : ℕ) → IsConflict (known_of cs) a id ↔ IsConflict (standing cs) a id
+StandingConflicts = (cs : List Constraint) (a : Assignment) (id : ℕ)
+    → IsConflict (known_of cs) a id ↔ IsConflict (standing cs) a id
 
 -- the same constraints force the same literals
 abbrev pub StandingReasons : Type 0
-StandingReasons = (cs : List Constraint) (a : Assignment) (l : ℤ) (id : Option ℕ) → IsReason (known_of cs) a l id ↔ IsReason (standing cs) a l id
+StandingReasons = (cs : List Constraint) (a : Assignment) (l : ℤ) (id : Option ℕ)
+    → IsReason (known_of cs) a l id ↔ IsReason (standing cs) a l id
 
 -- the same clauses are lawful
 abbrev pub StandingClauses : Type 0

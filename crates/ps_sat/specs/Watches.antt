@@ -54,8 +54,8 @@ pub record IsWatch (v : ℕ) (known : Known) (lits : List ℤ) (ids : List ℕ) 
   pub inside : IsWithin v clause
   pub term : HasTerm (lit_at lits n) 1 clause.terms
 
--- a watch, also one whose clause was forgotten, is of a literal of these variables, and its other one is of another literal and of
--- the same clause
+-- a watch, also one whose clause was forgotten, is of a literal of these variables, and its other one is of another literal and
+-- of the same clause
 pub record IsOfTwo (v : ℕ) (lits : List ℤ) (others ids : List ℕ) (n : ℕ) : Type 0 where
   pub slot : slot_of (lit_at lits n) < spare_of v
   pub other_within : number_at others n < length lits
@@ -78,8 +78,8 @@ pub record IsListed (v : ℕ) (known : List Constraint) (w : Watches) (but : ℕ
   pub at : (n : ℕ) → n < length w.lits.items → IsLive known w n → n ≢ but
       → Holds n (list_of w (spare_of v)) ⊎ Holds n (list_of w (slot_of (lit_of w n)))
 
--- each live watch but one is on the way, or stands in the list of its literal, and then, if this is the one that is gone through, the
--- other watched literal is true
+-- each live watch but one is on the way, or stands in the list of its literal, and then, if this is the one that is gone through,
+-- the other watched literal is true
 pub record IsPlaced (v : ℕ) (known : List Constraint) (w : Watches) (f : ℤ) (b : Assignment) (but : ℕ) : Type 0 where
   pub at : (n : ℕ) → n < length w.lits.items → IsLive known w n → n ≢ but
       → Holds n (list_of w (spare_of v))

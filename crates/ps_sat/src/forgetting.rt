@@ -149,9 +149,9 @@ pub(crate) fn forgotten_now(learned: u64, forgotten: u64) -> u64
 }
 
 /// Forgets so many learned clauses with ids below this one, unless all that are left are reasons on
-/// the trail: from the oldest one on, short ones last, which is a rule of E. Goldberg and Y. Novikov
-/// ("BerkMin", 2002). Their deletions are handed over. It takes no memory, and answers how many
-/// they were.
+/// the trail: from the oldest one on, short ones last, which is a rule of E. Goldberg and
+/// Y. Novikov ("BerkMin", 2002). Their deletions are handed over. It takes no memory, and answers
+/// how many they were.
 pub(crate) fn forget_due<S: ProofSink>(
     kept: &mut Kept,
     trail: &Trail,

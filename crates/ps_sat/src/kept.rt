@@ -149,8 +149,9 @@ impl Kept {
         }
     }
 
-    /// Forgets a learned clause. It stands no longer: the constraint that says nothing has its place.
-    /// Its watches are left out of the lists when propagation comes to them. It takes no memory.
+    /// Forgets a learned clause. It stands no longer: the constraint that says nothing has its
+    /// place. Its watches are left out of the lists when propagation comes to them. It takes no
+    /// memory.
     pub fn forget(&mut self, id: u64)
         requires { IsLearnedAt self.old id }
         ensures forgotten { HasForgotten self.old self.new id }

@@ -47,8 +47,8 @@ pub enum Outcome {
 ///
 /// After each outcome the log is whole and holds this goal and the steps of this search: after
 /// `Refuted` the last one, and no other, is a contradiction, and after `Spent` `conflicts` of them
-/// are clauses. The log was begun just once; before an error it may not have been. `LogFault`, and no other
-/// answer, raises the log's count of faults, by one.
+/// are clauses. The log was begun just once; before an error it may not have been. `LogFault`, and
+/// no other answer, raises the log's count of faults, by one.
 pub fn search<S: ProofSink>(
     alloc: Global,
     base: &ClauseForm,

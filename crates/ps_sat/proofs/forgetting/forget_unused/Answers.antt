@@ -2,6 +2,12 @@ use Rattle.std.proofs.Common.{arith}
 use Rattle.ps_sat.proofs.Unused.{some-none, some-one, gone-used}
 use Rattle.ps_sat.proofs.forgetting.forget_unused.Goals as goal
 
+pub returns-then-size-least-clause-ok : goal.returns-then-size-least-clause-ok
+returns-then-size-least-clause-ok g c = λ below earlier. some-none c.args.trail.now below c.args.kept.now (g.S.ProofSink.told c.args.log.now)
+
+pub returns-then-size-least-clause-used : goal.returns-then-size-least-clause-used
+returns-then-size-least-clause-used g c = λ none. absurd (omega (arith, none, c.if-size-least.true))
+
 pub returns-then-not-is_unused-clause-ok : goal.returns-then-not-is_unused-clause-ok
 returns-then-not-is_unused-clause-ok g c = λ below earlier. some-none c.args.trail.now below c.args.kept.now (g.S.ProofSink.told c.args.log.now)
 
