@@ -22,6 +22,7 @@ SpentAreUnrefuted = (f : Form) (goal : Constraint) (limit : ℕ) (steps : List S
 
 -- where no known constraint is violated or forces a literal, no clause is lawful whose literals are all false
 abbrev pub NothingFollowsAtRest : Type 0
-NothingFollowsAtRest = (variables : ℕ) (known : Known) (a : Assignment) (id : ℕ) (lits : List ℤ) (hints : List ℕ) → IsAtRest known a
+NothingFollowsAtRest = (variables : ℕ) (known : Known) (a : Assignment) (id : ℕ) (lits : List ℤ) (hints : List ℕ)
+    → IsAtRest known a
     → All (λ l. value_of a l ≡ Some false) lits
     → ¬ IsLawfulClause variables known id lits hints

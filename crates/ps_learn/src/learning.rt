@@ -37,10 +37,10 @@ pub struct Learned {
     pub marks: Vec<bool>,
 }
 
-/// A clause that is lawful, from a conflict. It has the opposites of the causes that were kept: of one
-/// literal of the last level at most, and of literals of lower levels, the greatest of which is the
-/// level to go on from. All of them are false on the trail. A conflict at level 0 gives the clause
-/// without literals.
+/// A clause that is lawful, from a conflict. It has the opposites of the causes that were kept: of
+/// one literal of the last level at most, and of literals of lower levels, the greatest of which is
+/// the level to go on from. All of them are false on the trail. A conflict at level 0 gives the
+/// clause without literals.
 pub fn learn(
     alloc: Global,
     known: &List<Constraint>,
