@@ -1,0 +1,5 @@
+pub mod Scopes
+pub mod Digits
+pub mod Passed
+pub mod Telling
+pub mod Judging

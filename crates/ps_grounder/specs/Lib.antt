@@ -1,0 +1,2 @@
+pub mod NumberedTexts
+pub mod GroundItems
