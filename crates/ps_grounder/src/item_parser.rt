@@ -1,6 +1,19 @@
 //! Items as they are parsed.
+ghost use Rattle.std.specs.Prelude.{◌≡◌, OnOk, true, false};
+ghost use Rattle.ps_text.specs.Grammar.{IsWeight};
+ghost use Rattle.ps_text.specs.PartialParses.{number_in};
+ghost use Rattle.ps_lex.specs.KeptTokens.{token_of};
+ghost use Rattle.ps_grounder.specs.Pending.{AreAtMost};
+ghost use Rattle.ps_grounder.specs.Machine.{most_parsed, first_work, formula_ended, closed, given_taken};
+ghost use Rattle.ps_grounder.specs.Machine.{operator_taken, linear_begun, item_begun, term_taken};
+ghost use Rattle.ps_grounder.specs.Machine.{goes_on, side_in, relation_taken, number_taken};
+ghost use Rattle.ps_grounder.specs.Machine.{least_taken, most_taken, signed_value, taken_at};
+ghost use Rattle.ps_grounder.specs.Machine.{probability_ended, IsWeighed};
+ghost use Rattle.ps_grounder.specs.Kept.{work_of, pending_of, Changes, States};
+
 use crate::formula_parser::FormulaParser;
 use crate::item::{LinearItem, NumberedItem, PlainItem, QueryItem};
+use crate::item_so_far::ItemSoFar;
 use crate::operator::binding_of;
 use crate::value::{Value, size};
 use crate::words::is_word;
@@ -15,25 +28,17 @@ use std::alloc::Global;
 #[derive(Drop)]
 pub(crate) struct ItemParser {
     pub(crate) formulas: FormulaParser,
+    pub(crate) item: ItemSoFar,
+    // The terms of a linear sentence before its last one.
+    pub(crate) terms: List<Term>,
     pub(crate) sentences: List<NumberedItem>,
     pub(crate) queries: List<NumberedItem>,
-    // Of the item: whether it is a query, whether `given` stood, its formula and condition, how it
-    // is bounded, an interval's least value, whether it is linear, whether a `-` stands before what
-    // is next, the last term's coefficient, and the terms before that one.
-    query: bool,
-    conditional: bool,
-    formula: u32,
-    given: Option<u32>,
-    side: Side,
-    least: Signed,
-    linear: bool,
-    minus: bool,
-    coefficient: Signed,
-    terms: List<Term>,
 }
 
 // The side of a relation; an interval is at least its least value.
-fn side(token: &Token) -> Side {
+fn side(token: &Token) -> Side
+    ensures { result ≡ side_in (token_of token.now) }
+{
     match token {
         Token::Sign(Symbol::Equals) => Side::Exactly,
         Token::Sign(Symbol::LessEquals) => Side::AtMost,
@@ -43,53 +48,73 @@ fn side(token: &Token) -> Side {
 
 impl ItemParser {
     /// A parser of items.
-    pub(crate) fn new(alloc: Global) -> ItemParser {
+    pub(crate) fn new(alloc: Global) -> ItemParser
+        ensures { work_of result ≡ first_work }
+    {
         ItemParser {
             formulas: FormulaParser::new(alloc),
+            item: ItemSoFar::none(),
+            terms: List::new(alloc),
             sentences: List::new(alloc),
             queries: List::new(alloc),
-            query: false,
-            conditional: false,
-            formula: 0,
-            given: None,
-            side: Side::Exactly,
-            least: Value::one().with_sign(false),
-            linear: false,
-            minus: false,
-            coefficient: Value::one().with_sign(false),
-            terms: List::new(alloc),
         }
     }
 
     // Ends the formula that stands open.
-    fn end_formula(&mut self) -> Result<(), NoMemory> {
+    fn end_formula(&mut self) -> Result<(), NoMemory>
+        requires room { AreAtMost most_parsed (work_of self.old).pending }
+        ensures { OnOk result (work_of self.new ≡ formula_ended (work_of self.old)) }
+    {
         let number = self.formulas.end()?;
-        if self.conditional {
-            self.given = Some(number);
+        if self.item.conditional {
+            self.item.given = Some(number);
         } else {
-            self.formula = number;
-            self.given = None;
+            self.item.formula = number;
+            self.item.given = None;
         }
         Ok(())
     }
 
+    // Ends the item's probability: that of a query is asked.
+    fn end_probability(&mut self) -> Result<(), NoMemory>
+        ensures { OnOk result (work_of self.new ≡ probability_ended (work_of self.old)) }
+    {
+        if !self.item.query {
+            return Ok(());
+        }
+        let ItemSoFar { formula, given, .. } = self.item;
+        self.queries
+            .push(NumberedItem::Query(QueryItem { formula, given }))
+    }
+
     // At a `)`.
-    fn close(&mut self) -> Result<(), NoMemory> {
+    fn close(&mut self) -> Result<(), NoMemory>
+        requires room { AreAtMost most_parsed (work_of self.old).pending }
+        ensures { OnOk result (work_of self.new ≡ closed (work_of self.old)) }
+    {
         if self.formulas.close()? {
             return Ok(());
         }
         self.end_formula()?;
-        if self.query {
-            self.queries.push(NumberedItem::Query(QueryItem {
-                formula: self.formula,
-                given: self.given,
-            }))?;
-        }
+        self.end_probability()
+    }
+
+    // At a `given`.
+    fn take_given(&mut self) -> Result<(), NoMemory>
+        requires room { AreAtMost most_parsed (work_of self.old).pending }
+        ensures { OnOk result (work_of self.new ≡ given_taken (work_of self.old)) }
+    {
+        self.end_formula()?;
+        self.item.conditional = true;
         Ok(())
     }
 
     /// Takes a token behind an operand.
-    pub(crate) fn operator(&mut self, token: &Token) -> Result<(), NoMemory> {
+    pub(crate) fn operator(&mut self, token: &Token) -> Result<(), NoMemory>
+        requires room { AreAtMost most_parsed (work_of self.old).pending }
+        ensures { OnOk result
+            (work_of self.new ≡ operator_taken (work_of self.old) (token_of token.now)) }
+    {
         let iff = binding_of(Connective::Iff);
         let or = binding_of(Connective::Or);
         let and = binding_of(Connective::And);
@@ -99,147 +124,200 @@ impl ItemParser {
             Token::Sign(Symbol::Bar) => self.formulas.connective(or, Connective::Or),
             Token::Sign(Symbol::Arrow) => self.formulas.connective(or, Connective::Implies),
             Token::Sign(Symbol::DoubleArrow) => self.formulas.connective(iff, Connective::Iff),
-            _ => {
-                self.end_formula()?;
-                self.conditional = true;
-                Ok(())
-            }
+            _ => self.take_given(),
         }
     }
 
     // A linear sentence begins, with a `-` or none.
-    fn begin_linear(&mut self, minus: bool) {
+    fn begin_linear(&mut self, minus: bool)
+        ensures { Changes (linear_begun minus) self.old self.new }
+    {
         self.terms = List::new(self.formulas.alloc);
-        self.linear = true;
-        self.minus = minus;
+        self.item.linear = true;
+        self.item.minus = minus;
     }
 
     // At the first token of an item.
-    fn begin(&mut self, token: &Token) {
-        self.query = is_word(token, b"query");
+    fn begin(&mut self, token: &Token)
+        requires { IsWeight (number_in (token_of token.now)) }
+        ensures { Changes (item_begun (token_of token.now)) self.old self.new }
+    {
+        self.item.query = is_word(token, b"query");
         match token {
-            Token::Word(_) => self.linear = false,
+            Token::Word(_) => self.item.linear = false,
             Token::Number(_) => {
                 self.begin_linear(false);
-                self.coefficient = Value::of(token).with_sign(false);
+                self.item.coefficient = Value::of(token).with_sign(false);
             }
             Token::Sign(_) => self.begin_linear(true),
         }
     }
 
     // At a coefficient, or the `P` of a term without one.
-    fn take_coefficient(&mut self, token: &Token) {
+    fn take_coefficient(&mut self, token: &Token)
+        requires { IsWeight (number_in (token_of token.now)) }
+        ensures { Changes (term_taken (token_of token.now)) self.old self.new }
+    {
         let value = match token {
             Token::Number(_) => Value::of(token),
             _ => Value::one(),
         };
-        self.coefficient = value.with_sign(self.minus);
-    }
-
-    // The last term of a linear sentence.
-    fn last_term(&self) -> Term {
-        Term {
-            formula: self.formula,
-            coefficient: self.coefficient,
-        }
+        self.item.coefficient = value.with_sign(self.item.minus);
     }
 
     // The left side goes on with a term behind a sign.
-    fn begin_term(&mut self, minus: bool) -> Result<(), NoMemory> {
-        if !self.linear {
+    fn begin_term(&mut self, minus: bool) -> Result<(), NoMemory>
+        ensures { OnOk result (Changes (goes_on minus) self.old self.new) }
+    {
+        if self.item.linear {
+            self.terms.push(self.item.last_term())?;
+        } else {
             self.terms = List::new(self.formulas.alloc);
-            self.coefficient = Value::one().with_sign(false);
+            self.terms.push(self.item.only_term())?;
         }
-        self.terms.push(self.last_term())?;
-        self.linear = true;
-        self.minus = minus;
+        self.item.linear = true;
+        self.item.minus = minus;
         Ok(())
     }
 
     // Behind a left side.
-    fn relation(&mut self, token: &Token) -> Result<(), NoMemory> {
+    fn relation(&mut self, token: &Token) -> Result<(), NoMemory>
+        ensures { OnOk result (Changes (relation_taken (token_of token.now)) self.old self.new) }
+    {
         match token {
             Token::Sign(Symbol::Plus) => self.begin_term(false),
             Token::Sign(Symbol::Minus) => self.begin_term(true),
             _ => {
-                self.side = side(token);
-                self.minus = false;
+                self.item.side = side(token);
+                self.item.minus = false;
                 Ok(())
             }
         }
     }
 
-    // At a number, or a `-` before it: the number's value, if it is one.
-    fn value(&mut self, token: &Token) -> Option<Signed> {
+    // The value of a number behind a `-` or none.
+    fn value(&self, token: &Token) -> Signed
+        requires { IsWeight (number_in (token_of token.now)) }
+        ensures { result ≡ signed_value (token_of token.now) (work_of self.now).item }
+    {
+        Value::of(token).with_sign(self.item.minus)
+    }
+
+    // At the number of a relation, or a `-` before it.
+    fn number(&mut self, token: &Token) -> Result<(), NoMemory>
+        requires { IsWeight (number_in (token_of token.now)) }
+        ensures { OnOk result
+            (work_of self.new ≡ number_taken (work_of self.old) (token_of token.now)) }
+    {
         match token {
             Token::Number(_) => {
-                let value = Value::of(token).with_sign(self.minus);
-                self.minus = false;
-                Some(value)
+                let value = self.value(token);
+                self.item.minus = false;
+                self.state(value, None)
             }
             _ => {
-                self.minus = true;
-                None
+                self.item.minus = true;
+                Ok(())
+            }
+        }
+    }
+
+    // At the least number of an interval, or a `-` before it.
+    fn least(&mut self, token: &Token)
+        requires { IsWeight (number_in (token_of token.now)) }
+        ensures { Changes (least_taken (token_of token.now)) self.old self.new }
+    {
+        match token {
+            Token::Number(_) => {
+                self.item.least = self.value(token);
+                self.item.minus = false;
+            }
+            _ => self.item.minus = true,
+        }
+    }
+
+    // At the greatest number of an interval, or a `-` before it.
+    fn most(&mut self, token: &Token) -> Result<(), NoMemory>
+        requires { IsWeight (number_in (token_of token.now)) }
+        ensures { OnOk result
+            (work_of self.new ≡ most_taken (work_of self.old) (token_of token.now)) }
+    {
+        match token {
+            Token::Number(_) => {
+                let value = self.value(token);
+                self.item.minus = false;
+                self.state(self.item.least, Some(value))
+            }
+            _ => {
+                self.item.minus = true;
+                Ok(())
             }
         }
     }
 
     // States the item with this value and perhaps an upper one.
-    fn state(&mut self, value: Signed, upper: Option<Signed>) -> Result<(), NoMemory> {
-        if !self.linear {
-            let (num, den) = size(value);
-            let upper = match upper {
-                Some(upper) => Some(size(upper)),
-                None => None,
-            };
-            return self.sentences.push(NumberedItem::Sentence(PlainItem {
-                formula: self.formula,
-                given: self.given,
-                side: self.side,
-                num,
-                den,
-                upper,
-            }));
+    fn state(&mut self, value: Signed, upper: Option<Signed>) -> Result<(), NoMemory>
+        ensures { OnOk result (States value upper self.old self.new) }
+    {
+        if self.item.linear {
+            self.sum(value, upper)
+        } else {
+            self.plain(value, upper)
         }
-        self.terms.push(self.last_term())?;
+    }
+
+    // States a plain sentence.
+    fn plain(&mut self, value: Signed, upper: Option<Signed>) -> Result<(), NoMemory>
+        requires plain { self.old.item.linear ≡ false }
+        ensures { OnOk result (States value upper self.old self.new) }
+    {
+        let ItemSoFar {
+            formula,
+            given,
+            side,
+            ..
+        } = self.item;
+        let (num, den) = size(value);
+        let upper = match upper {
+            Some(upper) => Some(size(upper)),
+            None => None,
+        };
+        self.sentences.push(NumberedItem::Sentence(PlainItem {
+            formula,
+            given,
+            side,
+            num,
+            den,
+            upper,
+        }))
+    }
+
+    // States a linear sentence.
+    fn sum(&mut self, value: Signed, upper: Option<Signed>) -> Result<(), NoMemory>
+        requires linear { self.old.item.linear ≡ true }
+        ensures { OnOk result (States value upper self.old self.new) }
+    {
+        self.terms.push(self.item.last_term())?;
         let terms = std::mem::replace(&mut self.terms, List::new(self.formulas.alloc));
         self.sentences.push(NumberedItem::Linear(LinearItem {
             terms,
-            side: self.side,
+            side: self.item.side,
             value,
             upper,
         }))
     }
 
-    // At the number of a relation.
-    fn number(&mut self, token: &Token) -> Result<(), NoMemory> {
-        match self.value(token) {
-            Some(value) => self.state(value, None),
-            None => Ok(()),
-        }
-    }
-
-    // At the least number of an interval.
-    fn least(&mut self, token: &Token) {
-        if let Some(value) = self.value(token) {
-            self.least = value;
-        }
-    }
-
-    // At the greatest number of an interval.
-    fn most(&mut self, token: &Token) -> Result<(), NoMemory> {
-        match self.value(token) {
-            Some(value) => self.state(self.least, Some(value)),
-            None => Ok(()),
-        }
-    }
-
-    /// Takes a token outside of formulas at this part of a text.
-    pub(crate) fn take(&mut self, part: Part, token: &Token) -> Result<(), NoMemory> {
+    /// Takes a token outside of formulas at this part of a text. For want of memory only some of
+    /// this may be done.
+    pub(crate) fn take(&mut self, part: Part, token: &Token) -> Result<(), NoMemory>
+        requires { IsWeighed part (token_of token.now) }
+        ensures { OnOk result
+            (work_of self.new ≡ taken_at part (work_of self.old) (token_of token.now)) }
+    {
         match part {
             Part::Item => self.begin(token),
             Part::Term => self.take_coefficient(token),
-            Part::Paren => self.conditional = false,
+            Part::Paren => self.item.conditional = false,
             Part::Relation => self.relation(token)?,
             Part::Number => self.number(token)?,
             Part::First => self.least(token),

@@ -1,4 +1,7 @@
 //! Operators that wait.
+ghost use Rattle.std.specs.Prelude.{◌≡◌};
+ghost use Rattle.ps_grounder.specs.Pending.{level_of, binding};
+
 use ps_first_order::{Connective, Quantifier};
 
 /// What waits for its last operand, or a `(` for its `)`.
@@ -15,7 +18,9 @@ pub(crate) enum Operator {
 }
 
 /// How tightly a connective binds, from 1 for `<->` to 4 for `&`.
-pub(crate) fn binding_of(connective: Connective) -> u8 {
+pub(crate) fn binding_of(connective: Connective) -> u8
+    ensures { result ≡ level_of connective }
+{
     match connective {
         Connective::Iff => 1,
         Connective::Implies => 2,
@@ -29,7 +34,9 @@ pub(crate) const NOT: u8 = 5;
 
 impl Operator {
     /// How tightly the operator binds, from 1 for `<->` to 5 for `!`; 0 for a `(`.
-    pub(crate) fn binding(self) -> u8 {
+    pub(crate) fn binding(self) -> u8
+        ensures { result ≡ binding self }
+    {
         match self {
             Operator::Group | Operator::Quantified(_, _) => 0,
             Operator::Joined(connective) => binding_of(connective),
