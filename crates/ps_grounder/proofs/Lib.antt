@@ -1,3 +1,11 @@
 pub mod Values
 pub mod Finding
 pub mod Reducing
+pub mod ItemMarking
+pub mod Behind
+pub mod Drafts
+pub mod Made
+pub mod CountPlaces
+pub mod Right
+pub mod Returned
+pub mod OneReading

@@ -14,13 +14,10 @@ use Rattle.ps_domains.specs.declared.kind.GroundKind.TheVariants as kind
 use Rattle.ps_domains.specs.declared.lexed.LexedText.{LexedText}
 use Rattle.ps_domains.specs.DomainTokens.{refusal}
 use Rattle.ps_domains.specs.Lexed.{pair_of}
-use Rattle.ps_first_order.specs.FirstOrder.{Signature}
 use Rattle.ps_grounder.specs.declared.parser.Parser.{Parser}
 use Rattle.ps_grounder.specs.declared.text.DomainText.{DomainText}
 use Rattle.ps_grounder.specs.declared.ground_error.GroundError.{GroundError}
 use Rattle.ps_grounder.specs.declared.ground_error.GroundError.TheVariants as error
-use Rattle.ps_grounder.specs.declared.item.NumberedText.{NumberedText}
-use Rattle.ps_grounder.specs.NumberedTexts.{StandsFor}
 use Rattle.ps_grounder.specs.Parsing.{is_done}
 use Rattle.ps_grounder.specs.Taking.{Parsed, nothing_parsed, parsed_by, with_token, IsTextOf}
 
@@ -77,7 +74,3 @@ abbrev pub IsRead : List ℕ → Result (DomainText × Option Position) GroundEr
 IsRead bytes (Ok r) = (x : Parsed) × (answer bytes ≡ Ok (x, r.1)) × IsTextOf x r.0
 IsRead bytes (Err (error.At k line column)) = answer bytes ≡ Err (k, record { line = line; column = column })
 IsRead bytes (Err error.NoMemory) = Unit {0}
-
--- the parts and items are those of a text over some signature
-abbrev pub IsNumberedText : NumberedText → Type 0
-IsNumberedText t = (s : Signature) × StandsFor t s
