@@ -6,6 +6,8 @@ pub mod Behind
 pub mod Drafts
 pub mod Made
 pub mod CountPlaces
+pub mod Growing
+pub mod Forming
 pub mod Right
 pub mod Returned
-pub mod OneReading
+pub mod OneGround

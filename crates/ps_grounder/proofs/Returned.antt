@@ -34,7 +34,7 @@ use Rattle.ps_grounder.specs.Refusing.{IsNumberIn, refusal_of, error_at}
 use Rattle.ps_grounder.specs.Taking.{Parsed, numbered_text, places_of, IsTextOf}
 use Rattle.ps_grounder.specs.Answers.{answer, IsRead}
 use Rattle.ps_grounder.proofs.CountPlaces.{refused_least, refused_most}
-use Rattle.ps_grounder.proofs.OneReading.{whole-once, whole-excludes, unread-once}
+use Rattle.ps_grounder.proofs.OneGround.{one_ground_problem, ground_excludes, one_ground_refusal}
 use Rattle.ps_grounder.proofs.Right.{IsParsedText, IsSo, answer_so}
 
 -- the problem of the items is that of the items in the order in which they are gone through
@@ -201,17 +201,17 @@ all-spelled bytes t r q m = subst (SpellsProblem bytes q) r.so.more_is (made-of 
 -- one answer alone is right
 
 pub grounds-each : (bytes : List ℕ) (p : Parts) → SpellsWhole bytes p → GroundsEach bytes (Ok p)
-grounds-each bytes p s = record { read = λ q t. whole-once bytes p q s t }
+grounds-each bytes p s = record { read = λ q t. one_ground_problem bytes p q s t }
 
 pub refuses-none : (bytes : List ℕ) (p : Parts) → SpellsWhole bytes p → RefusesEach bytes (Ok p)
-refuses-none bytes p s = record { refused = λ k x u. whole-excludes bytes p k x s u }
+refuses-none bytes p s = record { refused = λ k x u. ground_excludes bytes p k x s u }
 
 pub grounds-none : (bytes : List ℕ) (r : Result Parts GroundError) (e : GroundError) → r ≡ Err e → Tells (IsUnreadWhole bytes) e → GroundsEach bytes r
 grounds-none bytes r (error.At k l c) h t =
-    subst (GroundsEach bytes) (sym h) (record { read = λ p s. whole-excludes bytes p k (record { line = l; column = c }) s t })
+    subst (GroundsEach bytes) (sym h) (record { read = λ p s. ground_excludes bytes p k (record { line = l; column = c }) s t })
 grounds-none bytes r error.NoMemory h t = subst (GroundsEach bytes) (sym h) (record { read = λ p s. tt })
 
 pub refuses-each : (bytes : List ℕ) (r : Result Parts GroundError) (e : GroundError) → r ≡ Err e → Tells (IsUnreadWhole bytes) e → RefusesEach bytes r
 refuses-each bytes r (error.At k l c) h t =
-    subst (RefusesEach bytes) (sym h) (record { refused = λ j x u. unread-once bytes k j (record { line = l; column = c }) x t u })
+    subst (RefusesEach bytes) (sym h) (record { refused = λ j x u. one_ground_refusal bytes k j (record { line = l; column = c }) x t u })
 refuses-each bytes r error.NoMemory h t = subst (RefusesEach bytes) (sym h) (record { refused = λ j x u. tt })
