@@ -1,13 +1,12 @@
 -- Behind what is kept of a token the same is expected as behind the token.
-use Rattle.std.proofs.Common.{◌≡◌, ℕ, ◌≤◌, Bool, true, false, inl, inr, List, [], ◌∷◌, length, take, Option, Some, None, is_some, refl, sym, ap, ◌∙◌, arith, true≢false, unwrap_or}
+use Rattle.std.proofs.Common.{◌≡◌, ℕ, ◌≤◌, Bool, true, false, not, inl, inr, List, [], ◌∷◌, length, take, Option, Some, None, is_some, refl, sym, ap, ◌∙◌, arith, true≢false, unwrap_or}
 use Rattle.std.proofs.lemmas.Bool.Decides.{nat_tests}
 use Rattle.std.proofs.lemmas.List.{take_all}
 use Rattle.std.specs.Prelude.{nat_lt}
 use Rattle.ps_text.specs.Tokens as text
-use Rattle.ps_text.specs.Tokens.{Token, IsToken, is_the_sign, Open}
+use Rattle.ps_text.specs.Tokens.{Token, IsToken}
 use Rattle.ps_text.specs.declared.part.Part.{Part}
 use Rattle.ps_text.specs.declared.part.Part.TheVariants as part
-use Rattle.ps_text.specs.declared.kind.What.TheVariants as what
 use Rattle.ps_text.specs.ExpectedTokens as before
 use Rattle.ps_text.proofs.Cutting.{decide}
 use Rattle.ps_lex.specs.Seen.{seen, numeral_seen}
@@ -17,9 +16,9 @@ use Rattle.ps_domains.specs.declared.kind.GroundKind.TheVariants as kind
 use Rattle.ps_domains.specs.declared.domain_part.DomainPart.{DomainPart}
 use Rattle.ps_domains.specs.declared.domain_part.DomainPart.TheVariants as domain
 use Rattle.ps_domains.specs.DomainWords.{arity_of}
-use Rattle.ps_domains.specs.DomainTokens.{State, text_refusal, predicate_fault, sign_refusal, unless, has_more, refusal_at, refusal}
-use Rattle.ps_domains.specs.DomainTokens.{with_base, with_scopes, with_scope, with_arity, after_text, after_at, after}
-use Rattle.ps_domains.proofs.Passed.{read_passed, first_passed, second_passed}
+use Rattle.ps_domains.specs.DomainTokens.{State, text_refusal, predicate_fault, unless, has_more, refusal_at, refusal}
+use Rattle.ps_domains.specs.DomainTokens.{with_base, with_scopes, with_arity, after_text, after_at, after}
+use Rattle.ps_domains.proofs.Passed.{read_passed, first_passed}
 use Rattle.ps_domains.proofs.Judging.{arity_kept, long_refused}
 
 -- behind numbers that version 2 goes on behind alike, where it takes them
@@ -91,7 +90,7 @@ word_kept s w h = elim (decide (nat_lt 32 (length w))) [
 
 -- behind what is kept of a token that isn't refused
 pub goes_on_alike : (s : State) (t : Token) → IsToken t → refusal s t ≡ None → after s (token_of (seen t)) ≡ after s t
-unfolding refusal, after
+unfolding refusal after
 goes_on_alike s (text.Word w) i h = ap (λ u. after_at s.part s (text.Word u)) (word_kept s w h)
 goes_on_alike s (text.Number n) i h = number_after s.part s (numeral_of (numeral_seen n)) n h (arity_kept n i) (goes_on s.base (text.Number n))
 goes_on_alike s (text.Sign x) i h = refl
