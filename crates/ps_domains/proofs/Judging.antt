@@ -67,7 +67,7 @@ three_kept (text.Whole (d ∷ e ∷ ds)) i =
 three_kept (text.Quotient ds es) i = refl
 three_kept (text.Decimal ds es) i = decimal_three (min (length es) 7) (with_digits (with_digits no_digits ds) es).value
 
-arity_kept : (n : text.Numeral) → IsNumeral n → arity_of (text.Number (numeral_of (numeral_seen n))) ≡ arity_of (text.Number n)
+pub arity_kept : (n : text.Numeral) → IsNumeral n → arity_of (text.Number (numeral_of (numeral_seen n))) ≡ arity_of (text.Number n)
 arity_kept (text.Whole []) i = absurd i
 arity_kept (text.Whole (d ∷ [])) i = ap digit_of (one_kept d i)
 arity_kept (text.Whole (d ∷ e ∷ ds)) i = ap digit_of (more_kept d e ds).1
@@ -155,7 +155,7 @@ long_text s part.TextEnd w h = rw (long_before s.base w h) refl
 long_text s part.Done w h = rw (long_before s.base w h) refl
 
 -- wherever it stands
-long_refused : (p : DomainPart) (s : State) (w : List ℕ) → nat_lt 32 (length w) ≡ true → refusal_at p s (text.Word w) ≡ Some (kind.Read read.NameTooLong)
+pub long_refused : (p : DomainPart) (s : State) (w : List ℕ) → nat_lt 32 (length w) ≡ true → refusal_at p s (text.Word w) ≡ Some (kind.Read read.NameTooLong)
 long_refused domain.Text s w h = long_text s s.base.part w h
 long_refused domain.Const s w h = rw h refl
 long_refused domain.Constant s w h = rw h refl

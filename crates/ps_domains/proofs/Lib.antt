@@ -3,3 +3,4 @@ pub mod Digits
 pub mod Passed
 pub mod Telling
 pub mod Judging
+pub mod Going

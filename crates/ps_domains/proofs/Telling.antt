@@ -85,6 +85,36 @@ module _ (tokens : List (Token × Position)) (s : LexerState) (b : ℕ) (more by
       step s b more ∙ ap (λ q. after_tokens ended-there (stops_or q (lexed (with_byte s b) more))) bad in
       (λ i. (ap (λ xs. tokens ++ xs) (sym (append-nil ended-there)) i, Some place)) ∙ ap (after_tokens tokens) (sym rest) ∙ h.told
 
+  -- by what the calls answer: the token that ended, where it began, and the lexer
+  tokens-there : (new : List (Token × Position)) (t : Option Token) (p : Position) → new ≡ tokens ++ with_place t p → t ≡ token_ended s b → p ≡ s.began → new ≡ tokens ++ ended-there
+  tokens-there new t p e f g = e ∙ (λ i. tokens ++ with_place (f i) (g i))
+
+  pub tells-on : (new : List (Token × Position)) (t : Option Token) (p : Position) (l n : LexerState) (left : List ℕ)
+      → new ≡ tokens ++ with_place t p → t ≡ token_ended s b → p ≡ s.began → l ≡ with_byte s b → bad_place l.mode ≡ None → Passes l more n left → IsLexing new n left bytes
+  tells-on new t p l n left e f g k good passes =
+      subst (λ xs. IsLexing xs n left bytes) (sym (tokens-there new t p e f g))
+      (told-on n left (subst (λ x. bad_place x.mode ≡ None) k good) (subst (λ x. Passes x more n left) k passes))
+
+  pub tells-bad : (new : List (Token × Position)) (t : Option Token) (p : Position) (l : LexerState) (place : Position)
+      → new ≡ tokens ++ with_place t p → t ≡ token_ended s b → p ≡ s.began → l ≡ with_byte s b → bad_place l.mode ≡ Some place → (new, Some place) ≡ lexed new_lexer bytes
+  tells-bad new t p l place e f g k bad =
+      (λ i. (tokens-there new t p e f g i, Some place)) ∙ told-bad place (subst (λ x. bad_place x.mode ≡ Some place) k bad)
+
 -- at the end
 pub told-last : (tokens : List (Token × Position)) (s : LexerState) (bytes : List ℕ) → IsLexing tokens s [] bytes → (tokens ++ with_place (last_token s.mode) s.began, last_bad s.mode s.began) ≡ lexed new_lexer bytes
 told-last tokens s bytes h = ap (after_tokens tokens) (sym (last s)) ∙ h.told
+
+no-bytes : (xs : List ℕ) → length xs < 1 → xs ≡ []
+no-bytes [] h = refl
+no-bytes (x ∷ xs) h = absurd (omega (arith, h))
+
+pub all-told : (tokens new : List (Token × Position)) (s : LexerState) (left bytes : List ℕ) (t : Option Token) (p : Position) (bad : Option Position) → IsLexing tokens s left bytes
+    → length left < 1 → new ≡ tokens ++ with_place t p → t ≡ last_token s.mode → p ≡ s.began → bad ≡ last_bad s.mode s.began → (new, bad) ≡ lexed new_lexer bytes
+all-told tokens new s left bytes t p bad h few e f g k =
+    let whole : IsLexing tokens s [] bytes = subst (λ xs. IsLexing tokens s xs bytes) (no-bytes left few) h in
+    let same : new ≡ tokens ++ with_place (last_token s.mode) s.began = e ∙ (λ i. tokens ++ with_place (f i) (g i)) in
+    (λ i. (same i, k i)) ∙ told-last tokens s bytes whole
+
+pub end-told : (tokens : List (Token × Position)) (s : LexerState) (left bytes : List ℕ) → IsLexing tokens s left bytes → length left < 1 → s.here ≡ behind_all start bytes
+end-told tokens s left bytes h few =
+    let whole : IsLexing tokens s [] bytes = subst (λ xs. IsLexing tokens s xs bytes) (no-bytes left few) h in whole.place

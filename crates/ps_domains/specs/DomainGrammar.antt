@@ -4,8 +4,8 @@ use Rattle.std.specs.Prelude.{◌⊎◌, Option, Some, None, Contains, codes}
 use Rattle.ps_meaning.specs.Statements.{Name}
 use Rattle.ps_text.specs.declared.limits.TheConstants.{LONGEST_WORD, MOST_OPEN}
 use Rattle.ps_text.specs.declared.version.Version.TheVariants.{Two}
-use Rattle.ps_text.specs.Tokens.{Token, Word, Number, Sign, Whole, Open, Close, Comma, Semicolon, Bang}
-use Rattle.ps_text.specs.Tokens.{Ampersand, Bar, Arrow, DoubleArrow, Numeral}
+use Rattle.ps_text.specs.Tokens.{Token, Word, Number, Sign, Whole, Numeral}
+use Rattle.ps_text.specs.declared.symbol.Symbol.TheVariants.{Open, Close, Comma, Semicolon, Bang, Ampersand, Bar, Arrow, DoubleArrow}
 use Rattle.ps_text.specs.Grammar as before
 use Rattle.ps_text.specs.Grammar.{Relation, SignedRelation, minus_tokens, coefficient_tokens, term_sign}
 use Rattle.ps_text.specs.Grammar.{relation_tokens, signed_relation_tokens}

@@ -3,7 +3,8 @@ use Rattle.std.specs.Prelude.{◌≡◌, ◌+◌, ℕ, min, Bool, true, false, n
 use Rattle.std.specs.Prelude.{List, [], ◌∷◌, ◌++◌, length, Option, Some, None, is_some, unwrap_or, codes}
 use Rattle.std.specs.List.{list_any}
 use Rattle.ps_meaning.specs.Statements.{Name}
-use Rattle.ps_text.specs.Tokens.{Token, Word, Sign, Open, Close, Comma, Semicolon, is_the_word, is_the_sign}
+use Rattle.ps_text.specs.Tokens.{Token, Word, Sign, is_the_word, is_the_sign}
+use Rattle.ps_text.specs.declared.symbol.Symbol.TheVariants.{Open, Close, Comma, Semicolon}
 use Rattle.ps_text.specs.declared.version.Version.TheVariants.{Two}
 use Rattle.ps_text.specs.declared.limits.TheConstants.{MOST_OPEN}
 use Rattle.ps_text.specs.declared.part.Part.{Part}

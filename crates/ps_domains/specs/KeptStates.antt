@@ -27,3 +27,7 @@ behind s t = after (state_of s) (kept.token_of t)
 -- what is kept of a token is refused as the token is
 abbrev pub IsRefusedAlike : State → text.Token → Type 0
 IsRefusedAlike s t = refusal s (kept.token_of (seen t)) ≡ refusal s t
+
+-- behind what is kept of a token the same is expected as behind the token
+abbrev pub IsPassedAlike : State → text.Token → Type 0
+IsPassedAlike s t = after s (kept.token_of (seen t)) ≡ after s t

@@ -1,5 +1,5 @@
 //! How a text over listed constants goes on.
-ghost use Rattle.std.specs.Prelude.{◌≡◌, false, None, Some, OnOk};
+ghost use Rattle.std.specs.Prelude.{◌≡◌, [], ◌∷◌, false, None, OnOk};
 ghost use Rattle.ps_text.specs.ExpectedTokens as before;
 ghost use Rattle.ps_text.specs.Tokens as text;
 ghost use Rattle.ps_text.specs.declared.part.Part.TheVariants as part;
@@ -25,6 +25,7 @@ use ps_lex::{Digits, Numeral, Token};
 use ps_text::{Part, Symbol};
 
 // The version that a text has in the words of version 2.
+#[tactic(auto, unfolding(ps_lex::specs::KeptTokens::figures))]
 fn version_two() -> Token
     ensures { token_of result ≡ text.Number (text.Whole (50 ∷ [])) }
 {

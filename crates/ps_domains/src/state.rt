@@ -1,5 +1,6 @@
 //! What is expected between two tokens of a text over listed constants.
 ghost use Rattle.std.specs.Prelude.{◌≡◌};
+ghost use Rattle.std.specs.List.{list_any};
 ghost use Rattle.ps_lex.specs.KeptTokens.{token_of, state_of as base_of};
 ghost use Rattle.ps_domains.specs.declared.domain_part.DomainPart.TheVariants as domain;
 ghost use Rattle.ps_domains.specs.DomainTokens as expected;
@@ -9,6 +10,7 @@ ghost use Rattle.ps_domains.specs.DomainTokens.{operand_refusal, text_refusal, n
 ghost use Rattle.ps_domains.specs.DomainTokens.{new_name_fault, term_fault, more_fault};
 ghost use Rattle.ps_domains.specs.DomainTokens.{term_refusal, terms_refusal, more_refusal, refusal};
 ghost use Rattle.ps_domains.specs.KeptStates.{state_of};
+ghost use Rattle.ps_domains.specs.Names.{binds};
 
 use crate::declared::{Declared, Scope};
 use crate::domain_part::DomainPart;
@@ -70,22 +72,27 @@ impl DomainState {
         has_more(predicates, self.name.as_slice(), count)
     }
 
+    // Whether a variable of this name is bound.
+    fn is_bound(&self, name: &[u8]) -> bool
+        ensures { result ≡ list_any (binds name.now) (state_of self.now).scopes }
+    {
+        is_bound(self.scopes.items(), name)
+    }
+
     // Whether a constant, a predicate or a variable that is bound has this name.
-    #[tactic(auto, using(crate::proofs::Scopes::any_bound))]
     fn is_taken(&self, name: &[u8]) -> bool
         ensures { result ≡ is_taken (state_of self.now) name.now }
     {
         has(self.declared.constants.as_slice(), name)
             || has_predicate(self.declared.predicates.as_slice(), name)
-            || is_bound(self.scopes.items(), name)
+            || self.is_bound(name)
     }
 
     // Whether a constant or a variable that is bound has this name.
-    #[tactic(auto, using(crate::proofs::Scopes::any_bound))]
     fn is_term(&self, name: &[u8]) -> bool
         ensures { result ≡ is_term (state_of self.now) name.now }
     {
-        has(self.declared.constants.as_slice(), name) || is_bound(self.scopes.items(), name)
+        has(self.declared.constants.as_slice(), name) || self.is_bound(name)
     }
 
     // Why a token isn't the version.
