@@ -6,6 +6,8 @@ pub mod Behind
 pub mod Drafts
 pub mod Made
 pub mod CountPlaces
+pub mod Weighing
+pub mod Counting
 pub mod Growing
 pub mod Forming
 pub mod Right

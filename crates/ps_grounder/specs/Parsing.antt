@@ -2,7 +2,8 @@
 use Rattle.std.specs.Prelude.{◌≡◌, ℕ, ◌+◌, ◌≤◌, Bool, true, false, not, ◌&&◌, if◌then◌else◌, codes, List, [], ◌∷◌, length}
 use Rattle.std.specs.List.{list_any}
 use Rattle.ps_meaning.specs.Statements.{Name}
-use Rattle.ps_text.specs.Tokens.{Token, Open, Close, is_the_word, is_the_sign}
+use Rattle.ps_text.specs.Tokens.{Token, is_the_word, is_the_sign}
+use Rattle.ps_text.specs.declared.symbol.Symbol.TheVariants.{Open, Close}
 use Rattle.ps_text.specs.declared.part.Part.{Part}
 use Rattle.ps_text.specs.declared.part.Part.TheVariants as part
 use Rattle.ps_problem.specs.Numbering.{same_name, place_in}
@@ -65,7 +66,7 @@ text_worked p s w t = taken_at p w t
 -- what a token does at a part; the others change only what is expected
 abbrev pub worked_at : DomainPart → State → Work → Token → Work
 worked_at domain.Text s w t = text_worked s.base.part s w t
-worked_at domain.Declaration s w t = taken_at part.Item w t
+worked_at domain.Declaration s w t = if is_the_word (codes "pred") t then w else text_worked s.base.part s w t
 worked_at domain.Bound s w t = with_pending (variable_bound (letters_of t) w.pending) w
 worked_at domain.BoundParen s w t = with_pending (scope_opened w.pending) w
 worked_at domain.Terms s w t = if is_the_sign Open t then w
@@ -110,7 +111,7 @@ begins s t = is_before_item s.part s.base.part && not (is_the_word (codes "end")
 -- where a number is taken, by the part and by what version 2 has next, it is within the limit of numbers
 abbrev pub IsWeighedPart : DomainPart → Part → Token → Type 0
 IsWeighedPart domain.Text p t = IsWeighed p t
-IsWeighedPart domain.Declaration p t = IsWeighed part.Item t
+IsWeighedPart domain.Declaration p t = IsWeighed p t
 IsWeighedPart d p t = Unit {0}
 
 -- where a number is taken at a part it is within the limit of numbers

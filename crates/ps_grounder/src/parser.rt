@@ -1,9 +1,9 @@
 //! Texts over listed constants as they are parsed.
 ghost use Rattle.std.specs.Prelude.{◌≡◌, ◌++◌, ◌-◌, ◌≤◌, OnOk, IfOk, IfErr, length};
 ghost use Rattle.ps_lex.specs.KeptTokens.{token_of};
-ghost use Rattle.ps_domains.specs.declared.domain_part.DomainPart.TheVariants.{Text, Term, Terms};
+ghost use Rattle.ps_domains.specs.declared.domain_part.DomainPart.TheVariants.{Term, Terms};
 ghost use Rattle.ps_grounder.specs.Words.{predicate_names};
-ghost use Rattle.ps_grounder.specs.Machine.{most_parsed};
+ghost use Rattle.ps_grounder.specs.Machine.{most_parsed, IsWeighed};
 ghost use Rattle.ps_grounder.specs.Parsing.{quantifier_of, begins, worked, worked_at, text_worked};
 ghost use Rattle.ps_grounder.specs.Parsing.{operand_begun, argument_named, variable_named};
 ghost use Rattle.ps_grounder.specs.Parsing.{predicate_number, CountsAtMost, IsWeighedAt, is_done};
@@ -12,6 +12,7 @@ ghost use Rattle.ps_grounder.specs.Taking.{nothing_parsed, parsed_by, machine_of
 ghost use Rattle.ps_grounder.specs.Taking.{IsTaken, IsTokenRefused, HasBegun, Works, Pends};
 ghost use Rattle.ps_grounder.specs.Taking.{IsTextOf};
 
+use crate::formula_parser::FormulaParser;
 use crate::item::{NumberedItem, NumberedText};
 use crate::item_parser::ItemParser;
 use crate::names::{copy, place_of, place_of_predicate};
@@ -181,8 +182,7 @@ impl Parser {
 
     // What a token does at what version 2 has next.
     fn text_work(&mut self, token: &Token) -> Result<(), NoMemory>
-        requires text { (machine_of self.old).state.part ≡ Text }
-        requires weight { IsWeighedAt (machine_of self.old).state (token_of token.now) }
+        requires weight { IsWeighed (machine_of self.old).state.base.part (token_of token.now) }
         requires room { CountsAtMost (most_parsed - 1) (machine_of self.old) }
         ensures { OnOk result (Works (λ s w t. text_worked s.base.part s w t) token.now
             self.old self.new) }
@@ -215,7 +215,8 @@ impl Parser {
     {
         match self.state.part() {
             DomainPart::Text => self.text_work(token),
-            DomainPart::Declaration => self.items.take(Part::Item, token),
+            DomainPart::Declaration if is_word(token, b"pred") => Ok(()),
+            DomainPart::Declaration => self.text_work(token),
             DomainPart::Bound => self.items.formulas.bind(letters(token)),
             DomainPart::BoundParen => self.items.formulas.open_scope(),
             DomainPart::Terms => self.behind_predicate(token),
@@ -262,25 +263,35 @@ impl Parser {
         let Parser {
             state,
             items: parsed,
-            sentences,
+            sentences: mut places,
             queries,
         } = self;
+        let ItemParser {
+            formulas,
+            sentences: mut items,
+            queries: asked,
+            ..
+        } = parsed;
+        let FormulaParser {
+            variables,
+            arguments,
+            parts,
+            ..
+        } = formulas;
         let Declared {
             constants,
             predicates,
         } = state.into_declared();
         let predicates = names(alloc, predicates.as_slice())?;
+        append_items(&mut items, asked)?;
+        append_places(&mut places, queries.as_slice())?;
         let parts = FirstOrderParts {
             constants,
             predicates,
-            variables: parsed.formulas.variables,
-            arguments: parsed.formulas.arguments,
-            parts: parsed.formulas.parts,
+            variables,
+            arguments,
+            parts,
         };
-        let mut items: List<NumberedItem> = parsed.sentences;
-        append_items(&mut items, parsed.queries)?;
-        let mut places = sentences;
-        append_places(&mut places, queries.as_slice())?;
         let text = NumberedText { parts, items };
         Ok(DomainText { text, places })
     }
