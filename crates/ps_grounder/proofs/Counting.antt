@@ -23,7 +23,7 @@ use Rattle.ps_grounder.specs.declared.operator.Operator.{Operator}
 use Rattle.ps_grounder.specs.declared.operator.Operator.TheVariants as operator
 use Rattle.ps_grounder.specs.Words.{is_named}
 use Rattle.ps_grounder.specs.Pending.{Formed, Pending, binding, reduced_from, reduced, applied, opened, with_formed, with_operators, waiting, is_grouped, with_variable, variable_bound, scope_opened, quantifier_begun, predicate_begun, operand_ended, predicate_ended, group_ended, group_closed, without_operand, AreAtMost}
-use Rattle.ps_grounder.specs.Machine.{Work, operand_taken, connective_taken, formula_ended, probability_ended, closed, given_taken, operator_taken, taken_at, with_pending, with_query, query_of}
+use Rattle.ps_grounder.specs.Machine.{most_parsed, Work, operand_taken, connective_taken, formula_ended, probability_ended, closed, given_taken, operator_taken, taken_at, with_pending, with_query, query_of}
 use Rattle.ps_grounder.specs.Parsing.{Machine, next, worked, worked_at, text_worked, operand_begun, term_named, variable_named, argument_named, quantifier_of, predicate_number, owed, CountsAtMost}
 use Rattle.ps_grounder.proofs.Reducing.{applied_parts, applied_arguments, applied_variables}
 
@@ -365,3 +365,12 @@ module _ (s : State) (w : Work) (t : Token) (n : ℕ) (h : CountsAtMost n (recor
 pub one-more : (m : Machine) (t : Token) (n : ℕ) → CountsAtMost n m → CountsAtMost (n + 1) (next m t)
 unfolding after
 one-more m t n h = more m.state m.work t n h m.state.part refl
+
+-- behind a predicate's name there is room for the predicate, and for what the next token brings
+pub room-behind : (m : Machine) (q : Pending) → CountsAtMost (most_parsed - 1) m → m.state.part ≡ domain.Terms → q ≡ predicate_ended m.work.pending → AreAtMost most_parsed q
+room-behind m q h e is =
+    let o = ap owed e in
+    let p = h.parts in
+    let k = within-operand 4294967293 4294967295 4294967295 (formula.Holds m.work.pending.predicate m.work.pending.start (length m.work.pending.formed.arguments)) m.work.pending
+    (record { parts = omega (arith, o, p); arguments = (let a = h.arguments in omega (arith, a)); variables = (let v = h.variables in omega (arith, v)) }) in
+    subst (AreAtMost most_parsed) (sym is) (record { parts = (let l = k.parts in omega (arith, l)); arguments = k.arguments; variables = k.variables })

@@ -8,6 +8,8 @@ pub mod Made
 pub mod CountPlaces
 pub mod Weighing
 pub mod Counting
+pub mod Judging
+pub mod OneMeaning
 pub mod Growing
 pub mod Forming
 pub mod Right
