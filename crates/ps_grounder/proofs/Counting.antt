@@ -18,6 +18,7 @@ use Rattle.ps_text.proofs.Signs.{the_word}
 use Rattle.ps_domains.specs.DomainTokens.{State, at_part, with_base, with_scopes, scopes_opened, with_predicate, with_constant, with_name, with_arity, with_term, with_scope, after, after_at, after_text, after_operand, after_operator, letters_of}
 use Rattle.ps_first_order.specs.declared.part.Part.TheVariants as formula
 use Rattle.ps_first_order.specs.declared.part.Connective.{Connective}
+use Rattle.ps_first_order.specs.declared.part.Quantifier.{Quantifier}
 use Rattle.ps_first_order.specs.declared.part.Connective.TheVariants as connective
 use Rattle.ps_grounder.specs.declared.operator.Operator.{Operator}
 use Rattle.ps_grounder.specs.declared.operator.Operator.TheVariants as operator
@@ -189,13 +190,19 @@ counts x n s w h l c d = record {
   predicates = d;
 }
 
+within-predicate : (n a v k : ℕ) (p : Pending) → IsWithin n a v p → IsWithin n a v (predicate_begun k p)
+within-predicate n a v k p h = record { parts = h.parts; arguments = h.arguments; variables = h.variables }
+
+within-quantifier : (n a v : ℕ) (q : Quantifier) (p : Pending) → IsWithin n a v p → IsWithin n a v (quantifier_begun q p)
+within-quantifier n a v q p h = record { parts = h.parts; arguments = h.arguments; variables = h.variables }
+
 -- in the place of an operand without a predicate's name
 within-begun : (n a v : ℕ) (s : State) (p : Pending) (t : Token) → IsWithin n a v p → IsWithin (n + 1) a v (operand_begun s p t)
 within-begun n a v s p t h = by (is_quantifier t) (is_named t)
   where
     by : (b c : Bool) → IsWithin (n + 1) a v (if b then quantifier_begun (quantifier_of t) p else (if not c then operand_taken p t else predicate_begun (predicate_number s.predicates t) p))
-    by true c = within-more n a v (n + 1) a v p h (omega arith) (omega arith) (omega arith)
-    by false true = within-more n a v (n + 1) a v p h (omega arith) (omega arith) (omega arith)
+    by true c = within-more n a v (n + 1) a v (quantifier_begun (quantifier_of t) p) (within-quantifier n a v (quantifier_of t) p h) (omega arith) (omega arith) (omega arith)
+    by false true = within-more n a v (n + 1) a v (predicate_begun (predicate_number s.predicates t) p) (within-predicate n a v (predicate_number s.predicates t) p h) (omega arith) (omega arith) (omega arith)
     by false false = within-token n a v p t h
 
 within-text : (q : Part) (n a v : ℕ) (s : State) (w : Work) (t : Token) → IsWithin n a v w.pending → IsWithin (n + 1) a v (text_worked q s w t).pending
@@ -249,13 +256,13 @@ module _ (s : State) (w : Work) (t : Token) (n : ℕ) (h : CountsAtMost n (recor
             state = if a then at_part domain.Bound s else (if b then with_predicate s t else with_scopes (scopes_opened s.scopes t) (with_base (before.after s.base t) s));
             work = with_pending (if a then quantifier_begun (quantifier_of t) w.pending else (if not c then operand_taken w.pending t else predicate_begun (predicate_number s.predicates t) w.pending)) w;
           })
-      by true b c k e f = plain-more (at_part domain.Bound s) (with_pending (quantifier_begun (quantifier_of t) w.pending) w) refl refl refl same-more
+      by true b c k e f = plain-more (at_part domain.Bound s) (with_pending (quantifier_begun (quantifier_of t) w.pending) w) refl refl refl (within-quantifier (n + 1) n n (quantifier_of t) w.pending same-more)
       by false true true k e f =
           let p = h.parts in let a = h.constants in let b = h.predicates in
           counts n (n + 1) (with_predicate s t) (with_pending (predicate_begun (predicate_number s.predicates t) w.pending) w)
-          (within-one n (with_pending (predicate_begun (predicate_number s.predicates t) w.pending) w) (all-within n refl)) (omega arith) (omega (arith, a)) (omega (arith, b))
+          (within-one n (with_pending (predicate_begun (predicate_number s.predicates t) w.pending) w) (within-predicate n n n (predicate_number s.predicates t) w.pending (all-within n refl))) (omega arith) (omega (arith, a)) (omega (arith, b))
       by false true false k e f = absurd (true≢false (sym (k e) ∙ f))
-      by false false true k e f = plain-more (with_scopes (scopes_opened s.scopes t) (with_base (before.after s.base t) s)) (with_pending (predicate_begun (predicate_number s.predicates t) w.pending) w) refl refl refl same-more
+      by false false true k e f = plain-more (with_scopes (scopes_opened s.scopes t) (with_base (before.after s.base t) s)) (with_pending (predicate_begun (predicate_number s.predicates t) w.pending) w) refl refl refl (within-predicate (n + 1) n n (predicate_number s.predicates t) w.pending same-more)
       by false false false k e f = plain-more (with_scopes (scopes_opened s.scopes t) (with_base (before.after s.base t) s)) (with_pending (operand_taken w.pending t) w) refl refl refl (within-token n n n w.pending t (all-within n refl))
 
   text-more : (q : Part) → CountsAtMost (n + 1) (record { state = after_text s q t; work = text_worked q s w t })

@@ -214,26 +214,26 @@ module _ (s : Signature) (p : FirstOrderParts) where
       let g = ground_formula s (formula_in p t.formula) in
       let all : olds ++ gs-of (t ∷ ts) ≡ (olds ++ g ∷ []) ++ gs-of ts = sym (append_assoc olds (g ∷ []) (gs-of ts)) in
       let long : suc n ≡ length (olds ++ g ∷ []) = (let l = length-append olds (g ∷ []) in omega (arith, l, e)) in
-      let there : formula_at (olds ++ gs-of (t ∷ ts)) n ≡ g = get_or_at olds g (gs-of ts) formula.Truth n e in
+      let there : formula_at (olds ++ gs-of (t ∷ ts)) n ≡ g = get_or_at olds g (gs-of ts) formula.Truth n (sym e) in
       let rest : map (summand_at (olds ++ gs-of (t ∷ ts))) (numbered_from (suc n) ts) ≡ map (ground_summand s) (map (summand_in p) ts)
       = ap (λ fs. map (summand_at fs) (numbered_from (suc n) ts)) all ∙ summands-are ts (olds ++ g ∷ []) (suc n) long in
       λ i. (record { coefficient = (summand_at (olds ++ gs-of (t ∷ ts)) (record { formula = n; coefficient = t.coefficient })).coefficient; formula = there i }) ∷ rest i
 
   -- a formula and its condition stand where they are numbered
   record AreThere (fs : List (Formula Name)) (n f : ℕ) (given : Option ℕ) : Type 0 where
-    formula : formula_at fs n ≡ ground_formula s (formula_in p f)
-    given : option_map (formula_at fs) (behind_first n given) ≡ option_map (ground_formula s) (option_map (formula_in p) given)
+    first : formula_at fs n ≡ ground_formula s (formula_in p f)
+    condition : option_map (formula_at fs) (behind_first n given) ≡ option_map (ground_formula s) (option_map (formula_in p) given)
 
   are-there : (olds : List (Formula Name)) (n f : ℕ) (given : Option ℕ) → n ≡ length olds
       → AreThere (olds ++ ground_formulas s (formulas_at p (f ∷ option_to_list given))) n f given
-  are-there olds n f None e = record { formula = get_or_at olds (ground_formula s (formula_in p f)) [] formula.Truth n e; given = refl }
+  are-there olds n f None e = record { first = get_or_at olds (ground_formula s (formula_in p f)) [] formula.Truth n (sym e); condition = refl }
   are-there olds n f (Some g) e =
       let a = ground_formula s (formula_in p f) in
       let b = ground_formula s (formula_in p g) in
       let long : n + 1 ≡ length (olds ++ a ∷ []) = (let l = length-append olds (a ∷ []) in omega (arith, l, e)) in
       record {
-        formula = get_or_at olds a (b ∷ []) formula.Truth n e;
-        given = ap Some (ap (λ fs. formula_at fs (n + 1)) (sym (append_assoc olds (a ∷ []) (b ∷ []))) ∙ get_or_at (olds ++ a ∷ []) b [] formula.Truth (n + 1) long);
+        first = get_or_at olds a (b ∷ []) formula.Truth n (sym e);
+        condition = ap Some (ap (λ fs. formula_at fs (n + 1)) (sym (append_assoc olds (a ∷ []) (b ∷ []))) ∙ get_or_at (olds ++ a ∷ []) b [] formula.Truth (n + 1) (sym long));
       }
 
   pub item-is : (i : NumberedItem) (olds : List (Formula Name)) (n : ℕ) → n ≡ length olds
@@ -241,13 +241,13 @@ module _ (s : Signature) (p : FirstOrderParts) where
   unfolding gs-of
   item-is (item.Sentence i) olds n e =
       let h = are-there olds n i.formula i.given e in
-      λ j. Stated (Plain (record { formula = h.formula j; given = h.given j; side = i.side; value = ratio_of (i.num, i.den); upper = option_map ratio_of i.upper }))
+      λ j. Stated (Plain (record { formula = h.first j; given = h.condition j; side = i.side; value = ratio_of (i.num, i.den); upper = option_map ratio_of i.upper }))
   item-is (item.Linear i) olds n e =
       let h = summands-are i.terms olds n e in
       λ j. Stated (Linear (record { terms = h j; side = i.side; value = signed_of i.value; upper = option_map signed_of i.upper }))
   item-is (item.Query i) olds n e =
       let h = are-there olds n i.formula i.given e in
-      λ j. Asked (record { formula = h.formula j; given = h.given j })
+      λ j. Asked (record { formula = h.first j; given = h.condition j })
 
 given-there : (p : FirstOrderParts) (f : ℕ) (given : Option ℕ) → AreBelow (length p.parts) f given → AreRoots p (f ∷ option_to_list given)
 given-there p f None h = All-cons (λ r. r < length p.parts) f [] h.0 (All-nil (λ r. r < length p.parts))

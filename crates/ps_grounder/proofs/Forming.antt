@@ -30,7 +30,7 @@ use Rattle.ps_grounder.specs.Pending.{Formed, Pending, level_of, binding, reduci
 use Rattle.ps_grounder.specs.Machine.{connective_taken}
 use Rattle.ps_grounder.specs.Parsing.{term_named}
 use Rattle.ps_grounder.proofs.Reducing.{none_reducible}
-use Rattle.ps_grounder.proofs.Growing.{parts_over, Extends, extends-same, extends-extends, extends-opened, term-kept, Means, means-kept, parts-opened, means-opened}
+use Rattle.ps_grounder.proofs.Growing.{parts_over, Extends, extends-same, extends-extends, extends-opened, extends-with, term-kept, Means, means-with, means-kept, parts-opened, means-opened}
 
 -- the terms of a predicate, one after the other
 abbrev pub terms_named : List Name → List Name → Pending → Pending
@@ -158,11 +158,11 @@ module _ (sg : Signature) where
         number = length base.parts;
         formed = opened x base;
         operands = refl;
-        extends = extends-extends p.formed h.formed (opened x base) h.extends (extends-opened base x);
+        extends = extends-extends p.formed base (opened x base) (extends-with p.formed h.formed p.formed.operands h.extends) (extends-opened base x);
         sound = parts-opened sg.constants ps_of base x h.sound fit;
         means = (
             let m = means-opened sg.constants ps_of base x h.sound fit in
-            let k = means-kept sg.constants ps_of base (opened x base) (extends-opened base x) h.sound h.number (formula_of sg f) h.means in
+            let k = means-kept sg.constants ps_of base (opened x base) (extends-opened base x) h.sound h.number (formula_of sg f) (means-with sg.constants ps_of h.formed p.formed.operands h.number (formula_of sg f) h.means) in
             record { there = m.there; formula = m.formula ∙ ap first_order.Not k.formula });
         same = λ k least most. h.same k least (omega (arith, most, l)) ∙ reduces k operator.Not p.operators h.formed most ∙ ap (reduced_from k p.operators) took;
       }
@@ -227,12 +227,12 @@ module _ (sg : Signature) where
           number = length base.parts;
           formed = opened x base;
           operands = refl;
-          extends = extends-extends p.formed hg.formed (opened x base) (extends-extends p.formed hf.formed hg.formed hf.extends hg.extends) (extends-opened base x);
+          extends = extends-extends p.formed base (opened x base) (extends-with p.formed hg.formed p.formed.operands (extends-extends p.formed hf.formed hg.formed hf.extends hg.extends)) (extends-opened base x);
           sound = parts-opened sg.constants ps_of base x hg.sound fit;
           means = (
               let m = means-opened sg.constants ps_of base x hg.sound fit in
-              let a = means-kept sg.constants ps_of base (opened x base) (extends-opened base x) hg.sound hf.number (formula_of sg f) left in
-              let b = means-kept sg.constants ps_of base (opened x base) (extends-opened base x) hg.sound hg.number (formula_of sg g) hg.means in
+              let a = means-kept sg.constants ps_of base (opened x base) (extends-opened base x) hg.sound hf.number (formula_of sg f) (means-with sg.constants ps_of hg.formed p.formed.operands hf.number (formula_of sg f) left) in
+              let b = means-kept sg.constants ps_of base (opened x base) (extends-opened base x) hg.sound hg.number (formula_of sg g) (means-with sg.constants ps_of hg.formed p.formed.operands hg.number (formula_of sg g) hg.means) in
               record { there = m.there; formula = m.formula ∙ (λ i. joined_by c (a.formula i) (b.formula i)) ∙ sym e });
           same = λ k least few.
               hg.same k least (omega (arith, few, l, most)) ∙ reduces k (operator.Joined c) p.operators hg.formed (omega (arith, few, l)) ∙ ap (reduced_from k p.operators) took;
@@ -312,11 +312,11 @@ module _ (sg : Signature) where
         number = length base.parts;
         formed = opened y base;
         operands = refl;
-        extends = extends-extends p.formed h.formed (opened y base) (extends-extends p.formed (with_name x p.formed) h.formed w.extends h.extends) (extends-opened base y);
+        extends = extends-extends p.formed base (opened y base) (extends-with p.formed h.formed p.formed.operands (extends-extends p.formed (with_name x p.formed) h.formed w.extends h.extends)) (extends-opened base y);
         sound = parts-opened sg.constants ps_of base y h.sound fit;
         means = (
             let m = means-opened sg.constants ps_of base y h.sound fit in
-            let k = means-kept sg.constants ps_of base (opened y base) (extends-opened base y) h.sound h.number (formula_of sg f) h.means in
+            let k = means-kept sg.constants ps_of base (opened y base) (extends-opened base y) h.sound h.number (formula_of sg f) (means-with sg.constants ps_of h.formed p.formed.operands h.number (formula_of sg f) h.means) in
             record { there = m.there; formula = m.formula ∙ (λ i. bound_by qn (named i) (k.formula i)) });
         same = λ k least most. behind-group (operator.Quantified qn n) k p q h.formed (opened y base) most refl (h.same 1 (omega arith) l) took;
       }
@@ -502,6 +502,7 @@ module _ (sg : Signature) where
   -- each formula that is written stands open behind its tokens
   pub formed : (f : FormulaSyntax) (bound : List Name) (n : ℕ) (p : Pending) → before.IsWellFormed (plain f) → IsWritten sg bound n f → over p.formed → required p.operators ≤ before.level (plain f)
       → IsFormed f p.operators p.formed (pended sg.constants ps_of f p)
+  unfolding with_name
   formed (Alone w) bound n p h k s r = predicated (Alone w) w [] 0 p s k refl refl
   formed (Applied w t ts) bound n p h k s r = predicated (Applied w t ts) w (t ∷ ts) (length (t ∷ ts)) p s k.0 refl refl
   formed Truth bound n p h k s r = leaf Truth part.True p s tt refl refl

@@ -15,7 +15,7 @@ use Rattle.ps_first_order.specs.FirstOrder.{FirstOrder, Term, Constant, Variable
 use Rattle.ps_first_order.specs.FirstOrder as first_order
 use Rattle.ps_first_order.specs.Parts.{term_of, terms_of, joined_by, bound_by, operand, formula_over, formulas_from, formulas_in, IsArgument, Fits, AreParts}
 use Rattle.ps_ground.proofs.Marking.{formula_at_place}
-use Rattle.ps_grounder.specs.Pending.{Formed, opened}
+use Rattle.ps_grounder.specs.Pending.{Formed, opened, with_operands}
 
 -- the parts over constants and predicates
 abbrev pub parts_over : List Name → List Name → Formed → FirstOrderParts
@@ -58,6 +58,16 @@ extends-opened f x = record {
   variables_are = sym (append-nil f.variables);
   arguments_are = sym (append-nil f.arguments);
   parts_are = refl;
+}
+
+pub extends-with : (f g : Formed) (ns : List ℕ) → Extends f g → Extends f (with_operands ns g)
+extends-with f g ns e = record {
+  variables = e.variables;
+  arguments = e.arguments;
+  parts = e.parts;
+  variables_are = e.variables_are;
+  arguments_are = e.arguments_are;
+  parts_are = e.parts_are;
 }
 
 module _ (cs ps : List Name) (f g : Formed) (e : Extends f g) where
@@ -136,6 +146,9 @@ module _ (cs ps : List Name) (f g : Formed) (e : Extends f g) where
 pub record Means (cs ps : List Name) (f : Formed) (n : ℕ) (x : FirstOrder) : Type 0 where
   pub there : n < length f.parts
   pub formula : operand (formulas_in (parts_over cs ps f)) n ≡ x
+
+pub means-with : (cs ps : List Name) (f : Formed) (ns : List ℕ) (n : ℕ) (x : FirstOrder) → Means cs ps f n x → Means cs ps (with_operands ns f) n x
+means-with cs ps f ns n x m = record { there = m.there; formula = m.formula }
 
 pub means-kept : (cs ps : List Name) (f g : Formed) → Extends f g → AreParts (parts_over cs ps f) → (n : ℕ) (x : FirstOrder) → Means cs ps f n x → Means cs ps g n x
 means-kept cs ps f g e h n x m = record {

@@ -9,6 +9,7 @@ pub mod CountPlaces
 pub mod Weighing
 pub mod Counting
 pub mod Judging
+pub mod Lexings
 pub mod OneMeaning
 pub mod Growing
 pub mod Forming

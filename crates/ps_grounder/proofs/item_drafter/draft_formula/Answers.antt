@@ -12,13 +12,16 @@ pub add-requires-clause-operands : goal.add-requires-clause-operands
 add-requires-clause-operands c =
     let found = all-find c.args.draft.now c.args.marks.now c.requires.marks c.requires.closed in
     subst (λ m. taken_by m ≤ length c.loop-mark.draft.«open») (sym c.mark-item.is)
-    (marked-finds c.args.draft.now c.args.marks.now c.loop-mark.mark-index c.loop-mark.draft _ c.loop-mark-test.true c.loop-mark.invariant found)
+    (marked-finds c.args.draft.now c.args.marks.now c.loop-mark.mark-index c.loop-mark.draft _ c.loop-mark-test.true c.loop-mark.invariant.marked found)
 
 pub end_formula-requires-clause-one : goal.end_formula-requires-clause-one
 end_formula-requires-clause-one c =
     let h = c.requires.marks in
-    ap length (marked-all c.args.draft.now c.args.marks.now c.loop-mark.mark-index c.loop-mark.draft c.loop-mark-test.false c.loop-mark.invariant c.requires.closed h.formula h.is)
+    ap length (marked-all c.args.draft.now c.args.marks.now c.loop-mark.mark-index c.loop-mark.draft c.loop-mark-test.false c.loop-mark.invariant.marked c.requires.closed h.formula h.is)
 
 pub end_formula-requires-clause-nesting : goal.end_formula-requires-clause-nesting
 end_formula-requires-clause-nesting c =
-    open-nested c.args.draft.now c.args.marks.now c.loop-mark.mark-index c.loop-mark.draft c.loop-mark-test.false c.loop-mark.invariant c.requires.closed c.requires.marks
+    open-nested c.args.draft.now c.args.marks.now c.loop-mark.mark-index c.loop-mark.draft c.loop-mark-test.false c.loop-mark.invariant.marked c.requires.closed c.requires.marks
+
+pub returns : goal.returns
+returns c = ?

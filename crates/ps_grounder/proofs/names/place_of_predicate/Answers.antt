@@ -40,5 +40,4 @@ returns-clause-place c =
     let e = place-end names c.args.name.now c.loop-i.i within in
     let h : c.loop-i.i + place_in same_name (drop c.loop-i.i names) c.args.name.now ≡ place_in same_name names c.args.name.now = c.loop-i.invariant in
     let end = c.loop-i.auto.i-end in
-    let f = c.len.ensures in
-    omega (arith, e, h, end, f)
+    omega (arith, e, h, end)
