@@ -166,7 +166,7 @@ module _ (s : Signature) (p : FirstOrderParts) (fs : List FirstOrder) (k : AreSe
       })
       (draftable gs (rest-of (IsSentence s) f gs h) (rest-of (All IsShort) (marks_of (ground_formula s f)) (ground_marks_of s gs) l) (right-false (is_deep s f) (list_any (is_deep s) gs) e))
 
-total-is : (s : Signature) (fs : List FirstOrder) → total (ground_marks_of s fs) ≡ marks_in s fs
+pub total-is : (s : Signature) (fs : List FirstOrder) → total (ground_marks_of s fs) ≡ marks_in s fs
 total-is s [] = refl
 total-is s (f ∷ fs) = let a = size-marks s f in let b = total-is s fs in omega (arith, a, b)
 
@@ -180,7 +180,7 @@ marks-some (formula.Or f g) = let l = length-append (subformulas f ++ subformula
 marks-some (formula.Implies f g) = let l = length-append (subformulas f ++ subformulas g) (formula.Implies f g ∷ []) in omega (arith, l)
 marks-some (formula.Iff f g) = let l = length-append (subformulas f ++ subformulas g) (formula.Iff f g ∷ []) in omega (arith, l)
 
-formulas-few : (s : Signature) (fs : List FirstOrder) → length fs ≤ marks_in s fs
+pub formulas-few : (s : Signature) (fs : List FirstOrder) → length fs ≤ marks_in s fs
 formulas-few s [] = omega arith
 formulas-few s (f ∷ fs) = let a = marks-some (ground_formula s f) in let b = formulas-few s fs in omega (arith, a, b)
 
@@ -259,7 +259,7 @@ terms-there p (t ∷ ts) h =
     All-cons (λ r. r < length p.parts) t.formula (map (λ t. t.formula) ts) (first-of (IsDraftTerm (length p.parts)) t ts h).formula
     (terms-there p ts (rest-of (IsDraftTerm (length p.parts)) t ts h))
 
-marks-ground : (s : Signature) (gs : List FirstOrder) → map marks_of (ground_formulas s gs) ≡ ground_marks_of s gs
+pub marks-ground : (s : Signature) (gs : List FirstOrder) → map marks_of (ground_formulas s gs) ≡ ground_marks_of s gs
 marks-ground s [] = refl
 marks-ground s (g ∷ gs) = ap (λ xs. marks_of (ground_formula s g) ∷ xs) (marks-ground s gs)
 

@@ -1,13 +1,16 @@
+pub mod Passing
 pub mod Values
 pub mod Finding
 pub mod Reducing
 pub mod ItemMarking
 pub mod Behind
 pub mod Drafts
+pub mod ItemTaking
 pub mod Made
 pub mod CountPlaces
 pub mod Weighing
 pub mod Counting
+pub mod TakenTokens
 pub mod Judging
 pub mod Lexings
 pub mod OneMeaning

@@ -24,4 +24,4 @@ end_formula-requires-clause-nesting c =
     open-nested c.args.draft.now c.args.marks.now c.loop-mark.mark-index c.loop-mark.draft c.loop-mark-test.false c.loop-mark.invariant.marked c.requires.closed c.requires.marks
 
 pub returns : goal.returns
-returns c = ?
+returns c = added c.args.draft.now c.loop-mark.draft c.end_formula.new.self c.args.marks.now c.loop-mark.mark-index c.loop-mark-test.false c.loop-mark.auto.mark-index-end c.loop-mark.invariant.marked c.requires.closed c.in_ok-end_formula.ensures.ok
