@@ -1,5 +1,5 @@
 -- An item is drafted, or its ground formulas are too much.
-use Rattle.std.proofs.Common.{◌≡◌, ℕ, ◌+◌, ◌<◌, ◌≤◌, Bool, true, false, List, [], ◌∷◌, ◌++◌, length, map, All, Some, refl, sym, ap, subst, ◌∙◌, arith}
+use Rattle.std.proofs.Common.{◌≡◌, ℕ, ◌+◌, ◌<◌, ◌≤◌, Bool, true, false, List, [], ◌∷◌, ◌++◌, length, map, All, Some, refl, sym, ap, subst, ◌∙◌, arith, true≢false}
 use Rattle.std.proofs.lemmas.List.{length-append, length-map}
 use Rattle.std.specs.Prelude.{Result, Ok, Err, IsTrue, ◌↔◌}
 use Rattle.std.specs.List.{list_any}
@@ -26,10 +26,10 @@ use Rattle.ps_grounder.proofs.ItemMarking.{deep-same}
 use Rattle.ps_grounder.proofs.Drafts.{sentences-are, none-long, some-long, excess-marks, excess-names, excess-nestings, draftable, total-is, formulas-few, marks-ground, roots-there, drafted}
 
 pub yes-so : {P : Type 0} (b : Bool) → b ≡ true → IsTrue b ↔ P → P
-yes-so b e h = h.0 (subst IsTrue (sym e) tt)
+yes-so b e h = h.0 e
 
 pub not-so : {P : Type 0} (b : Bool) → b ≡ false → IsTrue b ↔ P → P → ⊥
-not-so b e h p = subst IsTrue e (h.1 p)
+not-so b e h p = absurd (true≢false (sym (h.1 p) ∙ e))
 
 module _ (p : FirstOrderParts) (i : NumberedItem) (old : ItemDrafter) (ready : IsReady p old) (numbered : IsNumbered (length p.parts) i) (some : AreSentences p (item_sentences (item_in p i))) (rs : List ℕ) (er : rs ≡ roots_of i) where
   pub roots-in : AreRoots p rs
