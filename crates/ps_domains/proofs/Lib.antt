@@ -10,3 +10,4 @@ pub mod Naming
 pub mod Parting
 pub mod Unrefused
 pub mod Blocking
+pub mod Declaring
