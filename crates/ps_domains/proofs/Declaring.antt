@@ -11,7 +11,7 @@ use Rattle.ps_text.specs.Tokens.{Token, Word, Number, Sign, Whole, Quotient, Dec
 use Rattle.ps_text.specs.declared.part.Part.{Part}
 use Rattle.ps_text.specs.declared.part.Part.TheVariants as part
 use Rattle.ps_text.specs.ExpectedTokens as before
-use Rattle.ps_text.specs.ExpectedTokens.{is_number}
+use Rattle.ps_text.specs.ExpectedTokens.{is_number, after as before_after}
 use Rattle.ps_text.specs.declared.kind.What.TheVariants as what
 use Rattle.ps_text.specs.declared.kind.ReadKind.TheVariants as read
 use Rattle.ps_text.proofs.Cutting.{decide}
@@ -30,7 +30,7 @@ use Rattle.ps_domains.specs.declared.kind.DomainWhat.TheVariants as domain_what
 use Rattle.ps_domains.specs.Names.{has_name}
 use Rattle.ps_domains.specs.DomainWords.{is_three, digit_of, arity_of}
 use Rattle.ps_domains.specs.DomainGrammar.{further_names, predicate_tokens, predicates_tokens, IsNamed, AreDeclared}
-use Rattle.ps_domains.specs.DomainTokens.{State, letters_of, read_reason, or_else, unless, unexpected, new_name_refusal, sign_refusal, refusal_at, after_at, Passes, at_start, version_refusal}
+use Rattle.ps_domains.specs.DomainTokens.{State, letters_of, read_reason, or_else, unless, unexpected, new_name_refusal, sign_refusal, refusal_at, after_at, refusal, after, Passes, at_start, version_refusal}
 use Rattle.ps_domains.proofs.Passed.{read_passed}
 use Rattle.ps_domains.proofs.Naming.{predicate_of, signature, Few, not_among}
 use Rattle.ps_domains.proofs.Parting.{name_word}
@@ -49,7 +49,7 @@ few_push : (ps : List Predicate) (q : Predicate) → Few ps → q.arity ≤ 3 �
 few_push [] q f h = (h, tt)
 few_push (p ∷ ps) q f h = (f.0, few_push ps q f.1 h)
 
-abbrev names_of : List Predicate → List Name
+abbrev pub names_of : List Predicate → List Name
 names_of [] = []
 names_of (p ∷ ps) = p.name ∷ names_of ps
 
@@ -90,17 +90,17 @@ differ ps once i j d lt most same =
 
 -- what is declared so far
 
-record AreConstants (cs : List Name) : Type 0 where
-  few : length cs ≤ 16
-  named : All IsNamed cs
-  once : AreOnce same_name cs
+pub record AreConstants (cs : List Name) : Type 0 where
+  pub few : length cs ≤ 16
+  pub named : All IsNamed cs
+  pub once : AreOnce same_name cs
 
-record ArePredicates (cs : List Name) (ps : List Predicate) : Type 0 where
-  count : length ps ≤ 64
-  few : Few ps
-  named : All IsNamed (names_of ps)
-  once : AreOnce same_name (names_of ps)
-  apart : All (λ (w : Name). list_any (same_name w) cs ≡ false) (names_of ps)
+pub record ArePredicates (cs : List Name) (ps : List Predicate) : Type 0 where
+  pub count : length ps ≤ 64
+  pub few : Few ps
+  pub named : All IsNamed (names_of ps)
+  pub once : AreOnce same_name (names_of ps)
+  pub apart : All (λ (w : Name). list_any (same_name w) cs ≡ false) (names_of ps)
 
 or_false : (a b : Bool) → a || b ≡ false → (a ≡ false) × (b ≡ false)
 or_false true b h = absurd (true≢false h)
@@ -171,6 +171,28 @@ an_arity (Number (Whole (d ∷ []))) n e = let x = digit d n e in (ap (λ k. Num
 some_of : (o : Option ℕ) → is_some o ≡ true → o ≡ Some (unwrap_or o 0)
 some_of (Some n) e = refl
 some_of None e = absurd (true≢false (sym e))
+
+psat_next : (t : Token) → before.after before.at_start t ≡ before.outside part.Version
+unfolding before_after
+psat_next t = refl
+
+head_next : (t : Token) → before.after (before.in_version Two part.HeadEnd) t ≡ item
+unfolding before_after
+head_next t = refl
+
+three : (t : Token) → is_three t ≡ true → t ≡ Number (Whole (codes "3"))
+three (Number (Whole ds)) e = ap (λ x. Number (Whole x)) ((bytes_eq-Decides ds (codes "3")).0 e)
+three (Number (Quotient ds es)) e = absurd (true≢false (sym e))
+three (Number (Decimal ds es)) e = absurd (true≢false (sym e))
+three (Word w) e = absurd (true≢false (sym e))
+three (Sign s) e = absurd (true≢false (sym e))
+
+the_three : (s : State) (t : Token) → version_refusal s t ≡ None → is_three t ≡ true
+the_three s t e = by (is_three t) refl e
+  where
+    by : (b : Bool) → is_three t ≡ b → (if b then None else or_else (read_reason (before.refusal s.base t)) (Some (kind.Read read.VersionUnknown))) ≡ None → b ≡ true
+    by true f e = refl
+    by false f e = absurd (true≢false (ap is_some (neither (read_reason (before.refusal s.base t)) (Some (kind.Read read.VersionUnknown)) e).1))
 
 module _ (e : State) (done : e.base ≡ before.outside part.Done) where
   -- before items the text isn't whole
@@ -247,7 +269,7 @@ module _ (e : State) (done : e.base ≡ before.outside part.Done) where
     -- the first token of an item
     first_token : (ps : List Predicate) (nm : Name) (t : Token) (ts : List Token) → read_reason (before.refusal item t) ≡ None → Passes (record { base = before.after item t; part = domain.Text; constants = cs; predicates = ps; scopes = []; name = nm; terms = 0; full = false }) ts e
         → Passes (sp domain.Text ps nm) (t ∷ ts) e
-    unfolding Rattle.ps_domains.specs.DomainTokens.refusal Rattle.ps_domains.specs.DomainTokens.after
+    unfolding refusal after
     first_token ps nm t ts h g = (h, g)
 
     module _ (t : Token) (ts : List Token) (r : Declares ts) where
@@ -329,3 +351,141 @@ module _ (e : State) (done : e.base ≡ before.outside part.Done) where
     declares : (ts : List Token) → Declares ts
     declares [] = none_declared
     declares (t ∷ ts) = one_declared t ts (declares ts)
+
+  -- constants
+
+  abbrev sc : DomainPart → List Name → State
+  sc p cs = record { base = item; part = p; constants = cs; predicates = []; scopes = []; name = []; terms = 0; full = false }
+
+  record AtMore (cs : List Name) (ts : List Token) : Type 0 where
+    more : List Name
+    rest : List Token
+    is : ts ≡ further_names more ++ Sign Semicolon ∷ rest
+    good : AreConstants (cs ++ more)
+    passes : Passes (sc domain.Declaration (cs ++ more)) rest e
+
+  record AtConstant (cs : List Name) (ts : List Token) : Type 0 where
+    word : Name
+    rest : List Token
+    is : ts ≡ Word word ∷ rest
+    behind : AtMore (cs ++ word ∷ []) rest
+
+  record Lists (ts : List Token) : Type 0 where
+    constant : (cs : List Name) → AreConstants cs → Passes (sc domain.Constant cs) ts e → AtConstant cs ts
+    more : (cs : List Name) → AreConstants cs → Passes (sc domain.ConstMore cs) ts e → AtMore cs ts
+
+  lists : (ts : List Token) → Lists ts
+  lists [] = record {
+    constant = λ cs g h. absurd (unfinished item refl (ap (λ s. s.base) h));
+    more = λ cs g h. absurd (unfinished item refl (ap (λ s. s.base) h));
+  }
+  lists (t ∷ ts) = let r = lists ts in record { constant = λ cs g h. constant_step t ts cs g h (λ us a b. r.more us a b); more = λ cs g h. more_step t ts cs g h (λ us a b. r.constant us a b) }
+    where
+      constant_step : (t : Token) (ts : List Token) (cs : List Name) → AreConstants cs → Passes (sc domain.Constant cs) (t ∷ ts) e
+          → ((us : List Name) → AreConstants us → Passes (sc domain.ConstMore us) ts e → AtMore us ts) → AtConstant cs (t ∷ ts)
+      constant_step t ts cs g h next =
+          let x = opened (sc domain.Constant cs) e t ts h in
+          let y = neither (new_name_refusal (sc domain.Constant cs) t) (unless (nat_lt (length cs) 16) kind.TooManyNames) x.0 in
+          let n = a_new_name (sc domain.Constant cs) t y.0 in
+          let a = or_false (list_any (same_name (letters_of t)) cs || false) false n.free in
+          let b = or_false (list_any (same_name (letters_of t)) cs) false a.0 in
+          record {
+            word = letters_of t;
+            rest = ts;
+            is = λ i. name_word t n.name i ∷ ts;
+            behind = next (cs ++ letters_of t ∷ []) (one_constant cs (letters_of t) g n.named b.0 (unless_true (nat_lt (length cs) 16) kind.TooManyNames y.1)) x.1;
+          }
+
+      more_step : (t : Token) (ts : List Token) (cs : List Name) → AreConstants cs → Passes (sc domain.ConstMore cs) (t ∷ ts) e
+          → ((us : List Name) → AreConstants us → Passes (sc domain.Constant us) ts e → AtConstant us ts) → AtMore cs (t ∷ ts)
+      more_step t ts cs g h next =
+          let x = opened (sc domain.ConstMore cs) e t ts h in
+          let due = (expected_there (is_the_sign Comma t || is_the_sign Semicolon t) (kind.Expected domain_what.ConstMore) t x.0).1 in
+          elim (decide (is_the_sign Comma t)) [
+            | inl c ↦ (let y = next cs g (subst (λ s. Passes s ts e) (ap (λ b. if b then sc domain.Constant cs else sc domain.Declaration cs) c) x.1) in
+                let z = y.behind in record {
+                  more = y.word ∷ z.more;
+                  rest = z.rest;
+                  is = λ i. the_sign Comma t c i ∷ (y.is ∙ ap (λ us. Word y.word ∷ us) z.is) i;
+                  good = subst AreConstants (append_assoc cs (y.word ∷ []) z.more) z.good;
+                  passes = subst (λ us. Passes (sc domain.Declaration us) z.rest e) (append_assoc cs (y.word ∷ []) z.more) z.passes;
+                })
+            | inr c ↦ record {
+                more = [];
+                rest = ts;
+                is = λ i. the_sign Semicolon t (sym (ap (λ b. b || is_the_sign Semicolon t) c) ∙ due) i ∷ ts;
+                good = subst AreConstants (sym (append-nil cs)) g;
+                passes = subst (λ us. Passes (sc domain.Declaration us) ts e) (sym (append-nil cs)) (subst (λ s. Passes s ts e) (ap (λ b. if b then sc domain.Constant cs else sc domain.Declaration cs) c) x.1);
+              }
+          ]
+
+  -- the head
+
+  abbrev sh : before.State → DomainPart → State
+  sh d p = record { base = d; part = p; constants = []; predicates = []; scopes = []; name = []; terms = 0; full = false }
+
+  -- the first token
+  record IsLed (t : Token) (s : State) (ts : List Token) (u : Token) : Type 0 where
+    rest : List Token
+    is : ts ≡ u ∷ rest
+    passes : Passes s rest e
+
+  is_psat : (ts : List Token) → Passes at_start ts e → IsLed (Word (codes "psat")) (sh (before.outside part.Version) domain.Text) ts (Word (codes "psat"))
+  is_psat [] h = absurd (unfinished before.at_start refl (ap (λ s. s.base) h))
+  is_psat (t ∷ ts) h =
+      let x = opened at_start e t ts h in
+      let ref = read_passed (before.refusal before.at_start t) x.0 in
+      record { rest = ts; is = λ i. the_word (codes "psat") t (passed before.at_start t ref).expected i ∷ ts; passes = subst (λ d. Passes (sh d domain.Text) ts e) (psat_next t) x.1 }
+
+  is_version : (ts : List Token) → Passes (sh (before.outside part.Version) domain.Text) ts e → IsLed (Number (Whole (codes "3"))) (sh (before.in_version Two part.HeadEnd) domain.Text) ts (Number (Whole (codes "3")))
+  is_version [] h = absurd (unfinished (before.outside part.Version) refl (ap (λ s. s.base) h))
+  is_version (t ∷ ts) h =
+      let x = opened (sh (before.outside part.Version) domain.Text) e t ts h in
+      record { rest = ts; is = λ i. three t (the_three (sh (before.outside part.Version) domain.Text) t x.0) i ∷ ts; passes = x.1 }
+
+  is_head_end : (ts : List Token) → Passes (sh (before.in_version Two part.HeadEnd) domain.Text) ts e → IsLed (Sign Semicolon) (sh item domain.Const) ts (Sign Semicolon)
+  is_head_end [] h = absurd (unfinished (before.in_version Two part.HeadEnd) refl (ap (λ s. s.base) h))
+  is_head_end (t ∷ ts) h =
+      let x = opened (sh (before.in_version Two part.HeadEnd) domain.Text) e t ts h in
+      let ref = read_passed (before.refusal (before.in_version Two part.HeadEnd) t) x.0 in
+      record { rest = ts; is = λ i. the_sign Semicolon t (passed (before.in_version Two part.HeadEnd) t ref).expected i ∷ ts; passes = subst (λ d. Passes (sh d domain.Const) ts e) (head_next t) x.1 }
+
+  is_const : (ts : List Token) → Passes (sh item domain.Const) ts e → IsLed (Word (codes "const")) (sc domain.Constant []) ts (Word (codes "const"))
+  is_const [] h = absurd (unfinished item refl (ap (λ s. s.base) h))
+  is_const (t ∷ ts) h =
+      let x = opened (sh item domain.Const) e t ts h in
+      record { rest = ts; is = λ i. the_word (codes "const") t (expected_there (is_the_word (codes "const") t) (kind.Expected domain_what.Const) t x.0).1 i ∷ ts; passes = x.1 }
+
+  -- what a text declares, and its items
+  pub record Begins (ts : List Token) : Type 0 where
+    pub first : Name
+    pub others : List Name
+    pub predicates : List Predicate
+    pub rest : List Token
+    pub name : Name
+    pub is : ts ≡ Word (codes "psat") ∷ Number (Whole (codes "3")) ∷ Sign Semicolon ∷ Word (codes "const") ∷ Word first ∷ (further_names others ++ Sign Semicolon ∷ (predicates_tokens (map predicate_of predicates) ++ rest))
+    pub declared : AreDeclared (signature (first ∷ others) predicates)
+    pub few : Few predicates
+    pub passes : Passes (sp (first ∷ others) domain.Text predicates name) rest e
+
+  pub begins : (ts : List Token) → Passes at_start ts e → Begins ts
+  begins ts h =
+      let a = is_psat ts h in
+      let b = is_version a.rest a.passes in
+      let c = is_head_end b.rest b.passes in
+      let d = is_const c.rest c.passes in
+      let f = (lists d.rest).constant [] (record { few = omega arith; named = λ k d l. absurd (omega (arith, l)); once = λ k d l. absurd (omega (arith, l)) }) d.passes in
+      let g = f.behind in
+      let p = (declares (f.word ∷ g.more) g.rest).declaration [] [] (record { count = omega arith; few = tt; named = λ k d l. absurd (omega (arith, l)); once = λ k d l. absurd (omega (arith, l)); apart = λ k d l. absurd (omega (arith, l)) }) g.passes in
+      record {
+        first = f.word;
+        others = g.more;
+        predicates = p.more;
+        rest = p.rest;
+        name = p.name;
+        is = a.is ∙ ap (λ us. Word (codes "psat") ∷ us) (b.is ∙ ap (λ us. Number (Whole (codes "3")) ∷ us) (c.is ∙ ap (λ us. Sign Semicolon ∷ us) (d.is ∙ ap (λ us. Word (codes "const") ∷ us)
+            (f.is ∙ ap (λ us. Word f.word ∷ us) (g.is ∙ ap (λ us. further_names g.more ++ Sign Semicolon ∷ us) p.is)))));
+        declared = are_declared (f.word ∷ g.more) p.more g.good p.good;
+        few = p.good.few;
+        passes = p.passes;
+      }

@@ -11,3 +11,4 @@ pub mod Parting
 pub mod Unrefused
 pub mod Blocking
 pub mod Declaring
+pub mod Derived
