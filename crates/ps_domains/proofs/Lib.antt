@@ -4,3 +4,11 @@ pub mod Passed
 pub mod Telling
 pub mod Judging
 pub mod Going
+pub mod Blocks
+pub mod BlockedItems
+pub mod Naming
+pub mod Parting
+pub mod Unrefused
+pub mod Blocking
+pub mod Declaring
+pub mod Derived

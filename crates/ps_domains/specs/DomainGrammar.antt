@@ -1,5 +1,5 @@
 -- What the tokens of a text over listed constants derive. A derivation is plain data, and its tokens are a function of it.
-use Rattle.std.specs.Prelude.{◌≡◌, ◌≢◌, ℕ, suc, ◌+◌, ◌<◌, ◌≤◌, Bool, true, false, List, [], ◌∷◌, ◌++◌, length, map, All, AllPairs}
+use Rattle.std.specs.Prelude.{◌≡◌, ◌≢◌, ℕ, ◌+◌, ◌<◌, ◌≤◌, Bool, false, List, [], ◌∷◌, ◌++◌, length, map, All, AllPairs}
 use Rattle.std.specs.Prelude.{◌⊎◌, Option, Some, None, Contains, codes}
 use Rattle.ps_meaning.specs.Statements.{Name}
 use Rattle.ps_text.specs.declared.limits.TheConstants.{LONGEST_WORD, MOST_OPEN}

@@ -1,13 +1,10 @@
 -- What a derivation of a text over listed constants states or asks.
-use Rattle.std.specs.Prelude.{◌≡◌, ℕ, Bool, List, [], ◌∷◌, map, Option, Some, None, if◌then◌else◌}
+use Rattle.std.specs.Prelude.{◌≡◌, List, [], ◌∷◌, map, Option, Some, None, if◌then◌else◌}
 use Rattle.std.specs.List.{list_any}
 use Rattle.ps_meaning.specs.Statements.{Name}
 use Rattle.ps_text.specs.Grammar.{Relation, SignedRelation}
-use Rattle.ps_text.specs.Meanings as before
 use Rattle.ps_text.specs.Meanings.{States, StatesSum, IsSignedValue, coefficient_of}
 use Rattle.ps_problem.specs.Numbering.{same_name}
-use Rattle.ps_first_order.specs.declared.part.Quantifier.{Quantifier}
-use Rattle.ps_first_order.specs.declared.part.Quantifier.TheVariants as quantifier
 use Rattle.ps_first_order.specs.FirstOrder as first_order
 use Rattle.ps_first_order.specs.FirstOrder.{FirstOrder, Signature}
 use Rattle.ps_first_order.specs.Texts as meaning

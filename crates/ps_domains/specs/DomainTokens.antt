@@ -1,12 +1,11 @@
 -- Which tokens are expected after others in a text over listed constants, and why a token is refused.
-use Rattle.std.specs.Prelude.{◌≡◌, ◌+◌, ℕ, min, Bool, true, false, not, ◌||◌, ◌&&◌, nat_lt, if◌then◌else◌}
+use Rattle.std.specs.Prelude.{◌≡◌, ◌+◌, ℕ, min, Bool, true, false, not, ◌||◌, nat_lt, if◌then◌else◌}
 use Rattle.std.specs.Prelude.{List, [], ◌∷◌, ◌++◌, length, Option, Some, None, is_some, unwrap_or, codes}
 use Rattle.std.specs.List.{list_any}
 use Rattle.ps_meaning.specs.Statements.{Name}
 use Rattle.ps_text.specs.Tokens.{Token, Word, Sign, is_the_word, is_the_sign}
 use Rattle.ps_text.specs.declared.symbol.Symbol.TheVariants.{Open, Close, Comma, Semicolon}
 use Rattle.ps_text.specs.declared.version.Version.TheVariants.{Two}
-use Rattle.ps_text.specs.declared.limits.TheConstants.{MOST_OPEN}
 use Rattle.ps_text.specs.declared.part.Part.{Part}
 use Rattle.ps_text.specs.declared.part.Part.TheVariants as part
 use Rattle.ps_text.specs.declared.kind.What.{What}
@@ -19,7 +18,6 @@ use Rattle.ps_problem.specs.Numbering.{same_name}
 use Rattle.ps_first_order.specs.declared.limits.TheConstants.{MOST_CONSTANTS, MOST_PREDICATES, MOST_ARITY}
 use Rattle.ps_domains.specs.declared.kind.GroundKind.{GroundKind}
 use Rattle.ps_domains.specs.declared.kind.GroundKind.TheVariants as kind
-use Rattle.ps_domains.specs.declared.kind.DomainWhat.{DomainWhat}
 use Rattle.ps_domains.specs.declared.kind.DomainWhat.TheVariants as domain_what
 use Rattle.ps_domains.specs.declared.domain_part.DomainPart.{DomainPart}
 use Rattle.ps_domains.specs.declared.domain_part.DomainPart.TheVariants as domain

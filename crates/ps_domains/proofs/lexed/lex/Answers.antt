@@ -1,4 +1,4 @@
-use Rattle.std.proofs.Common.{◌≡◌, ◌-◌, ◌<◌, ◌≤◌, length, map, get_or, take, drop, None, is_some, sym, subst, ap, ◌∙◌, true≢false, arith}
+use Rattle.std.proofs.Common.{◌-◌, ◌<◌, length, map, get_or, take, drop, is_some, sym, subst, ap, ◌∙◌, true≢false, arith}
 use Rattle.ps_lex.proofs.Passing.{first_and_others, room_more}
 use Rattle.ps_domains.specs.Lexed.{pair_of}
 use Rattle.ps_domains.proofs.Telling.{IsLexing, tells-on, tells-bad, all-told, end-told}
