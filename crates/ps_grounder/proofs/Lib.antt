@@ -16,6 +16,7 @@ pub mod Lexings
 pub mod OneMeaning
 pub mod Growing
 pub mod Forming
+pub mod Running
 pub mod Right
 pub mod Returned
 pub mod OneGround
