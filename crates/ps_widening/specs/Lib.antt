@@ -1,0 +1,4 @@
+pub mod Draft
+pub mod Widenings
+pub mod Books
+pub mod Laws
