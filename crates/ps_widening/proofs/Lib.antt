@@ -1,3 +1,5 @@
 pub mod Books
 pub mod Sums
+pub mod CommonUnits
+pub mod ScaledRows
 pub mod Products

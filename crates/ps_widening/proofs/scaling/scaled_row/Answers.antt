@@ -1,0 +1,7 @@
+use Rattle.std.proofs.Common.{refl, ap, ◌∙◌}
+use Rattle.ps_problem.specs.declared.row.Row.{Row}
+use Rattle.ps_widening.proofs.ScaledRows.{terms-small, product-back}
+use Rattle.ps_widening.proofs.scaling.scaled_row.Goals as goal
+
+pub scaled_terms-requires-clause-terms : goal.scaled_terms-requires-clause-terms
+scaled_terms-requires-clause-terms c = rw c.as_slice.ensures (terms-small c.args.row.now c.requires.row.small)
