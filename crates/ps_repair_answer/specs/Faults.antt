@@ -135,12 +135,16 @@ book_fault p value d =
 abbrev pub has_shape : Parts → Model → Dual → Bool
 has_shape p m d = have_atoms (length p.names) (entries m.worlds) && (length d.rows == length (scaled_rows p))
 
--- the first reason against a repair with its widenings; against an open one there is none
-abbrev pub fault_of : Parts → Repair → List Widening → Option RepairFault
-fault_of p (Found value m d trace) ws =
+-- the first reason against a found repair with its widenings
+abbrev pub found_fault : Parts → Rational → Model → Dual → List Widening → Option RepairFault
+found_fault p value m d ws =
     fault_or (unless_so (has_shape p m d) WrongShape)
     (fault_or (model_fault (length (scaled_rows p)) m)
     (fault_or (widening_fault (unit_of p) (widened_rows p) value (entries m.worlds) ws) (book_fault p value d)))
+
+-- the first reason against a repair with its widenings; against an open one there is none
+abbrev pub fault_of : Parts → Repair → List Widening → Option RepairFault
+fault_of p (Found value m d trace) ws = found_fault p value m d ws
 fault_of p (Open cause trace) ws = None
 
 -- a repair is accepted where no reason is against it, and else the first is answered, or want of memory

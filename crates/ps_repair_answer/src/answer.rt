@@ -5,7 +5,7 @@ use ps_io::List;
 use ps_table::Trace;
 
 /// By how much a bound is widened in a distribution, as a part of 1.
-#[derive(Clone, Copy, Debug, PartialEq, Drop)]
+#[derive(Clone, Copy, Debug, Drop)]
 pub struct Widening {
     /// The bound, by its number from 1.
     pub bound: u32,

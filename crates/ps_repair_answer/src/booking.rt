@@ -28,8 +28,8 @@ fn equal(a: i128, b: i128) -> bool
     a == b
 }
 
-// Whether two fractions are the same.
-fn same(a: &Fraction, b: &Fraction) -> bool
+/// Whether two fractions are the same.
+pub(crate) fn same(a: &Fraction, b: &Fraction) -> bool
     ensures { result ≡ (int_eq a.now.over b.now.over && (a.now.under == b.now.under)) }
 {
     equal(a.numerator(), b.numerator()) && equal(a.denominator(), b.denominator())

@@ -12,10 +12,10 @@ use Rattle.ps_meaning.specs.Rows.{Row, row_in, weighted_sum}
 use Rattle.ps_meaning.proofs.Rows.{weighted_sum-add, weighted_sum-scale, weighted_sum-nonpos}
 use Rattle.ps_meaning.proofs.Integers.{mul_add, mul_sub, mul_assoc, swap_mul, mul-nonneg, mul-zero}
 use Rattle.ps_meaning.proofs.IntRing.{neg-*ℤ, *ℤ_comm}
-use Rattle.ps_widening.specs.Draft.{Dual, HasSign, HaveSigns, HasValueHead, IsNeverAbove, sum_of_rows}
+use Rattle.ps_claims.specs.Duals.{Dual, HasSign, HaveSigns, HasValueHead, IsNeverAbove, sum_of_rows}
 use Rattle.ps_widening.specs.Widenings.{missed_by, miss, missed, IsWidenedAtLeast}
 use Rattle.ps_widening.specs.Books.{IsBook}
-use Rattle.ps_widening.proofs.Products.{ratio-least}
+use Rattle.ps_claims.proofs.Products.{ratio-least}
 
 -- what a book makes of the sums of rows
 abbrev sums : List Row → List ℤ → List Entry → ℤ

@@ -1,8 +1,10 @@
 -- The common unit of rows, one by one.
-use Rattle.std.proofs.Common.{◌≡◌, ℕ, suc, ◌+◌, ◌*◌, ◌/◌, ◌<◌, ◌≤◌, Bool, true, false, Option, Some, None, Result, Ok, Err, List, [], ◌∷◌, length, drop, get_or, All, refl, sym, ap, subst, ◌∙◌, arith}
+use Rattle.std.proofs.Common.{◌≡◌, ℕ, suc, ◌+◌, ◌*◌, ◌/◌, ◌<◌, ◌≤◌, Bool, true, false, Option, Some, None, Result, Ok, Err, inl, inr, List, [], ◌∷◌, length, drop, get_or, All, refl, sym, ap, subst, ◌∙◌, arith}
 use Rattle.std.specs.Prelude.{nat_lt}
 use Rattle.std.proofs.lemmas.List.{drop_more, drop_all}
+use Rattle.std.proofs.lemmas.Bool.{cases_Bool}
 use Rattle.std.proofs.lemmas.Bool.Decides.{nat_tests}
+use Rattle.std.proofs.lemmas.List.Elements.{All-head, All-tail}
 use Rattle.ps_meaning.specs.Gcd.{lcm}
 use Rattle.ps_problem.specs.declared.limits.TheConstants.{GREATEST_SCALE, MOST_SIZES}
 use Rattle.ps_problem.specs.declared.row.Row.{Row}
@@ -56,3 +58,13 @@ wide-here unit rs i r lt so e = let d = drop_more rs i r lt in rw (d, e) at so
 
 pub wide-none : (unit : ℕ) (rs : List Row) (i : ℕ) → length rs ≤ i → first_wide (i + 1) unit (drop i rs) ≡ first_wide 1 unit rs → None ≡ first_wide 1 unit rs
 wide-none unit rs i most so = let d = drop_all i rs most in rw d at so
+
+-- a common unit up to no row of which the limit is passed is within it
+pub unit-within : (n unit : ℕ) (rs : List Row) → All IsMeasured rs → 0 < unit → unit ≤ GREATEST_SCALE → first_past n unit rs ≡ None
+    → (0 < unit_with unit rs) × (unit_with unit rs ≤ GREATEST_SCALE)
+unit-within n unit [] are some small e = (some, small)
+unit-within n unit (r ∷ rs) are some small e = elim (cases_Bool (nat_lt GREATEST_SCALE (lcm unit r.unit))) [
+  | inl past ↦ absurd (let no : Some n ≡ None = rw past at e in cc)
+  | inr within ↦ unit-within (suc n) (lcm unit r.unit) rs (All-tail IsMeasured r rs are)
+      (lcm_some unit r.unit some (omega (arith, (All-head IsMeasured r rs are).some))) (grind (arith, nat_tests, within)) (rw within at e)
+]

@@ -2,4 +2,3 @@ pub mod Books
 pub mod Sums
 pub mod CommonUnits
 pub mod ScaledRows
-pub mod Products

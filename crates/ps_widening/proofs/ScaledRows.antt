@@ -11,11 +11,13 @@ use Rattle.std.proofs.Math.Nat.{mul-add}
 use Rattle.ps_formula.specs.declared.node.Node.{Node}
 use Rattle.ps_problem.specs.declared.limits.TheConstants.{GREATEST_SCALE, MOST_BOUNDS, MOST_SIZES}
 use Rattle.ps_problem.specs.declared.row.Row.{Row}
-use Rattle.ps_problem.specs.Problems.{Parts, IsTerm, terms_size}
+use Rattle.ps_problem.specs.Problems.{Parts, AreParts, IsTerm, terms_size}
 use Rattle.ps_problem.specs.Rows.{rows_in, IsRow, row_size}
+use Rattle.ps_problem.proofs.BoundRows.{are-rows}
 use Rattle.ps_widening.specs.Measured.{IsMeasured}
 use Rattle.ps_widening.specs.Common.{IsCommon}
-use Rattle.ps_widening.specs.Units.{common_unit, first_past, first_wide, or_later, factor, is_wide, scaled_terms, scaled_row, scaled_rows, unit_of, unscaled_at, IsScaled, TellsUnit}
+use Rattle.ps_widening.specs.Units.{common_unit, first_past, first_wide, or_later, factor, is_wide, scaled_terms, scaled_row, scaled_rows, unit_of, unscaled_at, IsScaled}
+use Rattle.ps_widening.proofs.CommonUnits.{unit-within}
 
 -- ---- numbers
 -- a number of a row is read back from the machine's
@@ -94,3 +96,24 @@ is-common p unit rs scaled e is tells some most are few map_is =
       some = omega (arith, some);
       most = most;
     }
+
+-- nothing and no number
+past-or-wide : (o later : Option ℕ) → or_later o later ≡ None → (o ≡ None) × (later ≡ None)
+past-or-wide None later e = (refl, e)
+past-or-wide (Some n) later e = absurd (cc)
+
+-- the common unit of a problem whose rows have one within the limits
+pub unit-sound : (p : Parts) → AreParts p → IsScaled p → (1 ≤ unit_of p) × (unit_of p ≤ GREATEST_SCALE)
+unit-sound p are is =
+    let rs = rows_in p.sentences in
+    let none = past-or-wide (first_past 1 1 rs) (first_wide 1 (common_unit rs) rs) is in
+    let u = unit-within 1 1 rs (measured p.nodes rs (are-rows p.nodes p.sentences are.bounds)) (omega arith) (omega arith) none.0 in
+    (omega (arith, u.0), u.1)
+
+-- its rows in that unit
+pub rows-scaled : (p : Parts) → AreParts p → IsScaled p → All (IsRow p.nodes) (scaled_rows p)
+rows-scaled p are is =
+    let rs = rows_in p.sentences in
+    let none = past-or-wide (first_past 1 1 rs) (first_wide 1 (common_unit rs) rs) is in
+    let u = unit-sound p are is in
+    rows-sound p.nodes (unit_of p) 1 rs u.0 u.1 (are-rows p.nodes p.sentences are.bounds) none.1

@@ -10,7 +10,7 @@ use Rattle.ps_meaning.proofs.IntRing.{*ℤ_comm}
 use Rattle.ps_meaning.proofs.Weights.{total-positive}
 use Rattle.ps_widening.specs.Widenings.{miss, missed, IsLeastWidening, MeetsAllWidened}
 use Rattle.ps_widening.proofs.Books.{times-more}
-use Rattle.ps_widening.proofs.Products.{mul-positive_back}
+use Rattle.ps_claims.proofs.Products.{mul-positive_back}
 
 positive-product : (n : ℕ) (t : ℤ) → 0 < n → pos 1 ≤ℤ t → pos 1 ≤ℤ (pos n *ℤ t)
 positive-product n t some positive =

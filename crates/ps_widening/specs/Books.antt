@@ -2,7 +2,7 @@
 use Rattle.std.specs.Prelude.{ℕ, ◌*◌, pos, ◌+ℤ◌, ◌≤ℤ◌, unsigned_abs, List, All}
 use Rattle.ps_meaning.specs.Rows.{Row}
 use Rattle.ps_meaning.specs.Rational.{Rational}
-use Rattle.ps_widening.specs.Draft.{Dual, HaveSigns, HasValueHead, IsNeverAbove, sum_of_rows}
+use Rattle.ps_claims.specs.Duals.{Dual, HaveSigns, HasValueHead, IsNeverAbove, sum_of_rows}
 
 -- no bet is on the wrong side of its row, each stake is at most the top over the unit, and the head is lost in every world, so
 -- that for each whole stake the value is lost

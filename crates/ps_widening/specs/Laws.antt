@@ -3,7 +3,7 @@ use Rattle.std.specs.Prelude.{◌≡◌, ◌<◌, ℕ, pos, ◌*ℤ◌, ◌≤�
 use Rattle.ps_meaning.specs.Distribution.{Entry, IsDistribution}
 use Rattle.ps_meaning.specs.Rows.{Row}
 use Rattle.ps_meaning.specs.Rational.{Rational}
-use Rattle.ps_widening.specs.Draft.{Dual}
+use Rattle.ps_claims.specs.Duals.{Dual}
 use Rattle.ps_widening.specs.Widenings.{IsWidenedAtLeast, IsLeastWidening, MeetsAllWidened}
 use Rattle.ps_widening.specs.Books.{IsBook}
 

@@ -1,4 +1,3 @@
-pub mod Draft
 pub mod Widenings
 pub mod Books
 pub mod Units

@@ -1,0 +1,2 @@
+pub mod TableSums
+pub mod Unfaulted
