@@ -1,9 +1,7 @@
 -- A Dutch book bounds what distributions miss.
-use Rattle.std.proofs.Common.{◌≡◌, ℕ, zero, suc, ◌*◌, ◌+◌, length, get_or, ℤ, pos, negsuc, neg_ℤ, ◌+ℤ◌, ◌-ℤ◌, ◌*ℤ◌, ◌≤ℤ◌, List, [], ◌∷◌, unsigned_abs, All, sym, refl, ap, ◌∙◌, arith}
-use Rattle.std.specs.List.{AllZip}
+use Rattle.std.proofs.Common.{◌≡◌, ℕ, zero, suc, ◌*◌, get_or, ℤ, pos, negsuc, neg_ℤ, ◌+ℤ◌, ◌-ℤ◌, ◌*ℤ◌, ◌≤ℤ◌, List, [], ◌∷◌, unsigned_abs, All, sym, refl, ap, ◌∙◌, arith}
 use Rattle.std.proofs.lemmas.Int.{ints}
 use Rattle.std.proofs.lemmas.List.Elements.{All-head, All-tail}
-use Rattle.ps_meaning.specs.Formula.{World}
 use Rattle.ps_meaning.specs.Distribution.{Entry, total, IsDistribution}
 use Rattle.ps_meaning.specs.declared.side.Side.{Side}
 use Rattle.ps_meaning.specs.declared.side.Side.TheVariants.{AtLeast, AtMost, Exactly}
@@ -12,7 +10,7 @@ use Rattle.ps_meaning.specs.Rows.{Row, row_in, weighted_sum}
 use Rattle.ps_meaning.proofs.Rows.{weighted_sum-add, weighted_sum-scale, weighted_sum-nonpos}
 use Rattle.ps_meaning.proofs.Integers.{mul_add, mul_sub, mul_assoc, swap_mul, mul-nonneg, mul-zero}
 use Rattle.ps_meaning.proofs.IntRing.{neg-*ℤ, *ℤ_comm}
-use Rattle.ps_claims.specs.Duals.{Dual, HasSign, HaveSigns, HasValueHead, IsNeverAbove, sum_of_rows}
+use Rattle.ps_claims.specs.Duals.{Dual, HasSign, HaveSigns, sum_of_rows}
 use Rattle.ps_widening.specs.Widenings.{missed_by, miss, missed, IsWidenedAtLeast}
 use Rattle.ps_widening.specs.Books.{IsBook}
 use Rattle.ps_claims.proofs.Products.{ratio-least}

@@ -1,17 +1,17 @@
 -- The common unit of rows, one by one.
-use Rattle.std.proofs.Common.{◌≡◌, ℕ, suc, ◌+◌, ◌*◌, ◌/◌, ◌<◌, ◌≤◌, Bool, true, false, Option, Some, None, Result, Ok, Err, inl, inr, List, [], ◌∷◌, length, drop, get_or, All, refl, sym, ap, subst, ◌∙◌, arith}
+use Rattle.std.proofs.Common.{◌≡◌, ℕ, suc, ◌+◌, ◌<◌, ◌≤◌, true, false, Some, None, inl, inr, List, [], ◌∷◌, length, drop, get_or, All, refl, sym, arith}
 use Rattle.std.specs.Prelude.{nat_lt}
 use Rattle.std.proofs.lemmas.List.{drop_more, drop_all}
 use Rattle.std.proofs.lemmas.Bool.{cases_Bool}
 use Rattle.std.proofs.lemmas.Bool.Decides.{nat_tests}
 use Rattle.std.proofs.lemmas.List.Elements.{All-head, All-tail}
 use Rattle.ps_meaning.specs.Gcd.{lcm}
-use Rattle.ps_problem.specs.declared.limits.TheConstants.{GREATEST_SCALE, MOST_SIZES}
+use Rattle.ps_problem.specs.declared.limits.TheConstants.{GREATEST_SCALE}
 use Rattle.ps_problem.specs.declared.row.Row.{Row}
 use Rattle.ps_problem.specs.Scales.{scale_within}
 use Rattle.ps_problem.proofs.Scales.{lcm_some, some_scale, none_scale}
 use Rattle.ps_widening.specs.Measured.{IsMeasured}
-use Rattle.ps_widening.specs.Units.{unit_with, common_unit, first_past, is_wide, first_wide, or_later, TellsUnit}
+use Rattle.ps_widening.specs.Units.{unit_with, common_unit, first_past, is_wide, first_wide}
 
 -- the unit of the rows before this one
 pub record IsUnitSoFar (rs : List Row) (i unit : ℕ) : Type 0 where

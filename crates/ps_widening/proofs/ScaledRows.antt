@@ -1,7 +1,6 @@
 -- Rows in their common unit.
-use Rattle.std.proofs.Common.{◌≡◌, ℕ, zero, suc, ◌+◌, ◌*◌, ◌/◌, ◌<◌, ◌≤◌, ℤ, pos, ◌*ℤ◌, unsigned_abs, Bool, true, false, Option, Some, None, Result, Ok, Err, inl, inr, List, [], ◌∷◌, ◌++◌, length, map, take, get_or, All, to_z, of_z, refl, sym, ap, subst, ◌∙◌, arith}
+use Rattle.std.proofs.Common.{◌≡◌, ℕ, zero, suc, ◌+◌, ◌*◌, ◌<◌, ◌≤◌, ℤ, pos, ◌*ℤ◌, unsigned_abs, false, Option, Some, None, inl, inr, List, [], ◌∷◌, ◌++◌, length, map, take, get_or, All, to_z, of_z, refl, ap, ◌∙◌, arith}
 use Rattle.std.specs.Int.{w64}
-use Rattle.std.specs.Prelude.{nat_lt}
 use Rattle.std.proofs.lemmas.Int.{unsigned_abs-mul, to_z-of_z, fits_signed_from_abs}
 use Rattle.std.proofs.lemmas.Bool.{cases_Bool}
 use Rattle.std.proofs.lemmas.Bool.Decides.{nat_tests}
@@ -16,7 +15,7 @@ use Rattle.ps_problem.specs.Rows.{rows_in, IsRow, row_size}
 use Rattle.ps_problem.proofs.BoundRows.{are-rows}
 use Rattle.ps_widening.specs.Measured.{IsMeasured}
 use Rattle.ps_widening.specs.Common.{IsCommon}
-use Rattle.ps_widening.specs.Units.{common_unit, first_past, first_wide, or_later, factor, is_wide, scaled_terms, scaled_row, scaled_rows, unit_of, unscaled_at, IsScaled}
+use Rattle.ps_widening.specs.Units.{common_unit, first_past, first_wide, or_later, factor, is_wide, scaled_terms, scaled_row, scaled_rows, unit_of, IsScaled}
 use Rattle.ps_widening.proofs.CommonUnits.{unit-within}
 
 -- ---- numbers

@@ -1,5 +1,5 @@
 -- What holds of widenings and Dutch books.
-use Rattle.std.specs.Prelude.{◌≡◌, ◌<◌, ℕ, pos, ◌*ℤ◌, ◌≤ℤ◌, List, sum}
+use Rattle.std.specs.Prelude.{◌<◌, ℕ, pos, ◌*ℤ◌, ◌≤ℤ◌, List, sum}
 use Rattle.ps_meaning.specs.Distribution.{Entry, IsDistribution}
 use Rattle.ps_meaning.specs.Rows.{Row}
 use Rattle.ps_meaning.specs.Rational.{Rational}

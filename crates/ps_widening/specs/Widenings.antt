@@ -1,5 +1,5 @@
 -- How far distributions miss rows, and the least of what they miss in all.
-use Rattle.std.specs.Prelude.{◌≡◌, ℕ, zero, suc, ◌+◌, ◌*◌, ℤ, pos, negsuc, unsigned_abs, ◌*ℤ◌, ◌≤ℤ◌, List, [], ◌∷◌, sum}
+use Rattle.std.specs.Prelude.{◌≡◌, ℕ, suc, ◌+◌, ℤ, pos, negsuc, unsigned_abs, ◌*ℤ◌, ◌≤ℤ◌, List, [], ◌∷◌}
 use Rattle.std.specs.List.{AllZip}
 use Rattle.ps_meaning.specs.Distribution.{Entry, total, IsDistribution}
 use Rattle.ps_meaning.specs.declared.side.Side.{Side}

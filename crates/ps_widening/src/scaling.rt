@@ -23,11 +23,7 @@ fn times(factor: u32, number: i64) -> i64
 }
 
 // Terms, each number times a factor.
-fn scaled_terms(
-    alloc: Global,
-    factor: u32,
-    terms: &[(u32, i64)],
-) -> Result<LinearTerms, NoMemory>
+fn scaled_terms(alloc: Global, factor: u32, terms: &[(u32, i64)]) -> Result<LinearTerms, NoMemory>
     requires factor { factor ≤ GREATEST_SCALE }
     requires terms { All (λ t. unsigned_abs t.1 ≤ MOST_SIZES) terms.now }
     ensures { IfOk result (λ r. r ≡ scaled_terms factor terms.now) }

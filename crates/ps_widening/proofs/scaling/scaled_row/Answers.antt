@@ -1,6 +1,4 @@
-use Rattle.std.proofs.Common.{refl, ap, ◌∙◌}
-use Rattle.ps_problem.specs.declared.row.Row.{Row}
-use Rattle.ps_widening.proofs.ScaledRows.{terms-small, product-back}
+use Rattle.ps_widening.proofs.ScaledRows.{terms-small}
 use Rattle.ps_widening.proofs.scaling.scaled_row.Goals as goal
 
 pub scaled_terms-requires-clause-terms : goal.scaled_terms-requires-clause-terms

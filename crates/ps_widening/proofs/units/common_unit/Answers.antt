@@ -1,4 +1,4 @@
-use Rattle.std.proofs.Common.{◌<◌, get_or, sym, ◌∙◌, arith}
+use Rattle.std.proofs.Common.{sym, ◌∙◌, arith}
 use Rattle.ps_widening.proofs.CommonUnits.{unit-next}
 use Rattle.ps_widening.proofs.units.common_unit.Goals as goal
 

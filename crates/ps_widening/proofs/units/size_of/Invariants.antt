@@ -1,4 +1,4 @@
-use Rattle.std.proofs.Common.{◌≡◌, ◌+◌, ◌≤◌, drop}
+use Rattle.std.proofs.Common.{◌≡◌, ◌+◌, drop}
 use Rattle.ps_problem.specs.Problems.{terms_size}
 use Rattle.ps_problem.specs.Rows.{row_size}
 use Rattle.ps_widening.proofs.units.size_of.Given as goal
