@@ -1,2 +1,4 @@
+pub mod Quotients
 pub mod TableSums
+pub mod ModelTables
 pub mod Unfaulted

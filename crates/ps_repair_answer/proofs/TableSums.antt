@@ -1,8 +1,8 @@
 -- Sums over worlds by tables of truths, and what they are of distributions.
 use Rattle.std.proofs.Common.{◌≡◌, ℕ, zero, suc, ◌+◌, ◌*◌, ◌^◌, ◌==◌, ◌<◌, ◌≤◌, ℤ, pos, ◌+ℤ◌, ◌*ℤ◌, ◌≤ℤ◌, ◌<ℤ◌, Bool, true, false, cond, List, [], ◌∷◌, ◌++◌, length, map, get_or, take, drop, drop-cons, unsigned_abs, FitsSigned, to_z, of_z, All, refl, sym, ap, subst, ◌∙◌, arith}
-use Rattle.std.specs.Int.{w128}
+use Rattle.std.specs.Int.{w64, w128}
 use Rattle.std.proofs.lemmas.Int.{ints, to_z-of_z, fits_signed_from_abs}
-use Rattle.std.proofs.lemmas.Bool.{cases_Bool, eqb-true}
+use Rattle.std.proofs.lemmas.Bool.Decides.{nat_tests}
 use Rattle.std.proofs.lemmas.List.{drop_more, drop_all, length-map, take_more, map-append, append_assoc, append-nil, get_or-map}
 use Rattle.std.proofs.lemmas.List.Elements.{All-head, All-tail}
 use Rattle.ps_meaning.specs.Rational.{fraction}
@@ -19,7 +19,8 @@ use Rattle.ps_problem.specs.Problems.{tree_at, weights_at}
 use Rattle.ps_problem.specs.Rows.{HasTerm, IsRow, row_over, term_over, terms_over, row_of, row_size}
 use Rattle.ps_answer.specs.declared.answer.Weighted.{Weighted}
 use Rattle.ps_claims.specs.Certificates.{entry_of, entries}
-use Rattle.ps_valid.specs.Limits.{AreSmall}
+use Rattle.ps_valid.specs.Limits.{IsAmount, AreSmall}
+use Rattle.ps_problem.specs.declared.limits.TheConstants.{MOST_SIZES}
 use Rattle.ps_widening.specs.Widenings.{miss, missed, missed_by}
 use Rattle.ps_repair_answer.specs.declared.answer.Widening.{Widening}
 use Rattle.ps_repair_answer.specs.Covered.{IsTable, Covers, most_part, most_sum}
@@ -28,6 +29,16 @@ use Rattle.ps_repair_answer.specs.Tables.{truths_in, table_sum, table_miss, tabl
 
 small-back : (z : ℤ) → unsigned_abs z ≤ 100 * most_sum → to_z w128 (of_z w128 z) ≡ z
 small-back z h = to_z-of_z w128 z (fits_signed_from_abs w128 z (omega (arith, h)))
+
+-- a weight and what a row has are read back from the machine's
+pub weight-back : (z : ℤ) → IsAmount z → to_z w128 (of_z w128 z) ≡ z
+weight-back z h = omega (arith, ints, h.low, h.high)
+
+pub value-back : (z : ℤ) → unsigned_abs z ≤ MOST_SIZES → to_z w64 (of_z w64 z) ≡ z
+value-back z h = to_z-of_z w64 z (fits_signed_from_abs w64 z (omega (arith, h)))
+
+pub sum-back : (z : ℤ) → unsigned_abs z ≤ 100 * most_sum → to_z w128 (of_z w128 z) ≡ z
+sum-back z h = small-back z h
 
 -- ---- the sum of a row
 -- how far a sum has come: what is left leads to the whole
@@ -51,14 +62,14 @@ module _ (ws : List Weighted) (ts : List (List Bool)) (r : Row) (i : ℕ) (sum p
   part-back : to_z w128 (of_z w128 part) ≡ part
   part-back = small-back part (omega (arith, small))
 
-  sum-back : to_z w128 (of_z w128 (sum +ℤ part)) ≡ sum +ℤ part
-  sum-back = let s = so.size in small-back (sum +ℤ part) (omega (arith, ints, s, small, few, lt))
+  next-back : to_z w128 (of_z w128 (sum +ℤ part)) ≡ sum +ℤ part
+  next-back = let s = so.size in small-back (sum +ℤ part) (omega (arith, ints, s, small, few, lt))
 
   pub sum-fits : FitsSigned w128 (sum +ℤ to_z w128 (of_z w128 part))
   sum-fits = let s = so.size in rw part-back (fits_signed_from_abs w128 (sum +ℤ part) (omega (arith, ints, s, small, few, lt)))
 
   pub sum-machine : IsSumTo ws ts r (i + 1) (to_z w128 (of_z w128 (sum +ℤ to_z w128 (of_z w128 part))))
-  sum-machine = rw (part-back, sum-back) sum-next
+  sum-machine = rw (part-back, next-back) sum-next
 
 pub sum-all : (ws : List Weighted) (ts : List (List Bool)) (r : Row) (i : ℕ) (sum : ℤ) → length ws ≤ i → IsSumTo ws ts r i sum → sum ≡ table_sum ws ts r
 sum-all ws ts r i sum past so = let v = rw (drop_all i ws past) at so.value in omega (arith, ints, v)
@@ -110,7 +121,7 @@ module _ (whole : ℕ) (ws : List Weighted) (ts : List (List Bool)) (rs : List R
       → more ++ table_widenings (i + 1 + 1) whole ws ts (drop (i + 1) rs) ≡ table_widenings 1 whole ws ts rs
   widenings-more more k some e =
       let n : suc (i + 1) ≡ i + 1 + 1 = omega arith in
-      let test : (table_miss ws ts (get_or rs i r) == 0) ≡ false = rw some refl in
+      let test : (table_miss ws ts (get_or rs i r) == 0) ≡ false = grind (arith, nat_tests, some) in
       let h = rw (drop_more rs i r lt, test, n) at so in
       ap (λ m. m ++ table_widenings (i + 1 + 1) whole ws ts (drop (i + 1) rs)) e
       ∙ append_assoc found (record { bound = i + 1; by = fraction (pos (table_miss ws ts (get_or rs i r))) whole } ∷ []) (table_widenings (i + 1 + 1) whole ws ts (drop (i + 1) rs))

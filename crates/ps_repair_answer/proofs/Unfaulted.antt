@@ -47,7 +47,7 @@ use Rattle.ps_valid.proofs.Tables.{shape_of_worlds}
 use Rattle.ps_meaning.proofs.Weights.{total-positive}
 use Rattle.ps_widening.specs.Widenings.{missed, HasWidening, IsLeastWidening}
 use Rattle.ps_widening.specs.Books.{IsBook}
-use Rattle.ps_widening.specs.Units.{unit_of, scaled_rows, widened_rows, IsScaled}
+use Rattle.ps_widening.specs.Units.{unit_of, scaled_row, scaled_rows, widened_rows, IsScaled}
 use Rattle.ps_widening.proofs.Books.{book-bounds}
 use Rattle.ps_widening.proofs.ScaledRows.{rows-scaled}
 use Rattle.ps_repair_answer.specs.declared.answer.Widening.{Widening}
@@ -55,8 +55,8 @@ use Rattle.ps_repair_answer.specs.declared.answer.Repair.{Repair}
 use Rattle.ps_repair_answer.specs.declared.answer.Repair.TheVariants.{Found, Open}
 use Rattle.ps_repair_answer.specs.declared.repair_fault.RepairFault.{RepairFault}
 use Rattle.ps_repair_answer.specs.declared.repair_fault.RepairFault.TheVariants as fault
-use Rattle.ps_repair_answer.specs.Faults.{fault_or, unless_so, have_atoms, is_among, entry_fault, has_total, model_fault, has_widening, widening_fault, has_head, has_sign, first_wrong_sign, first_large_stake, numbered, run_fault, book_start, steps_fault, book_fault, has_shape, fault_of}
-use Rattle.ps_repair_answer.specs.Shown.{widenings_in, same_widening, same_widenings, IsRepaired, IsShown, IsSmallRepair, HasWeights}
+use Rattle.ps_repair_answer.specs.Faults.{fault_or, unless_so, have_atoms, is_among, entry_fault, has_total, model_fault, has_value, widening_fault, has_head, has_sign, first_wrong_sign, first_large_stake, numbered, run_fault, book_start, steps_fault, book_fault, has_shape, fault_of}
+use Rattle.ps_repair_answer.specs.Shown.{told_widenings, same_widening, same_widenings, IsRepaired, IsShown, IsSmallRepair, HasWeights}
 
 -- ---- reasons
 fault-none : (o later : Option RepairFault) → fault_or o later ≡ None → (o ≡ None) × (later ≡ None)
@@ -172,7 +172,7 @@ model-right atoms bounds m small shape h = elim (cases_Bool (nat_lt (bounds + 1)
 -- ---- the widenings
 widening-same : (a b : Widening) → Decides (same_widening a b) (a ≡ b)
 widening-same a b =
-    Decides-like (same_widening a b) (λ e. path e.0 e.1.0 e.1.1) (λ e. (ap (λ w. w.bound) e, ap (λ w. w.by.over) e, ap (λ w. w.by.under) e))
+    Decides-like (same_widening a b) (λ (e : (a.bound ≡ b.bound) × ((a.by.over ≡ b.by.over) × (a.by.under ≡ b.by.under))). path e.0 e.1.0 e.1.1) (λ e. (ap (λ (w : Widening). w.bound) e, (ap (λ (w : Widening). w.by.over) e, ap (λ (w : Widening). w.by.under) e)))
     (Decides-and (a.bound == b.bound) (int_eq a.by.over b.by.over && (a.by.under == b.by.under)) (Decides-eqb a.bound b.bound)
     (Decides-and (int_eq a.by.over b.by.over) (a.by.under == b.by.under) (Decides-int_eq a.by.over b.by.over) (Decides-eqb a.by.under b.by.under)))
   where
@@ -238,20 +238,20 @@ book-right p value d are is long h =
 
 -- ---- the repair
 rows-many : (p : Parts) → length (scaled_rows p) ≡ length (bounds_of p)
-rows-many p = rw (length-map, length-map, length-map) (rows-length p.sentences)
+rows-many p = length-map (rows_in p.sentences) (scaled_row (unit_of p)) ∙ rows-length p.sentences ∙ sym (length-map (bounds_in p.sentences) (bound_of p.nodes))
 
 pub unfaulted : (p : Parts) (r : Repair) (ws : List Widening) → AreParts p → IsScaled p → IsSmallRepair r → fault_of p r ws ≡ None → IsShown p r ws
 unfaulted p (Open cause trace) ws are is small e = tt
 unfaulted p (Found value m d trace) ws are is small e =
     let a = fault-none (unless_so (has_shape p m d) fault.WrongShape) _ e in
     let b = fault-none (model_fault (length (scaled_rows p)) m) _ a.1 in
-    let c = fault-none (widening_fault (unit_of p) (widened_rows p) value (entries m.worlds) ws) _ b.1 in
+    let c = fault-none (widening_fault p value m ws) _ b.1 in
     let shape = both (have_atoms (length p.names) (entries m.worlds)) _ (unless-none (has_shape p m d) fault.WrongShape a.0) in
     let long = eqb-true (length d.rows) (length (scaled_rows p)) shape.1 in
     let model = model-right (length p.names) (length (scaled_rows p)) m small.0 shape.0 b.0 in
-    let w = fault-none (unless_so (has_widening (unit_of p) (widened_rows p) value (entries m.worlds)) fault.ValueMissed) _ c.0 in
-    let reached = same-int _ _ (unless-none (has_widening (unit_of p) (widened_rows p) value (entries m.worlds)) fault.ValueMissed w.0) in
-    let told = widenings-same ws (widenings_in (unit_of p) (widened_rows p) (entries m.worlds)) (unless-none _ fault.WidenWrong w.1) in
+    let w = fault-none (unless_so (has_value p value m) fault.ValueMissed) _ c.0 in
+    let reached = same-int _ _ (unless-none (has_value p value m) fault.ValueMissed w.0) in
+    let told = widenings-same ws (told_widenings p m) (unless-none _ fault.WidenWrong w.1) in
     let book = book-right p value d are is long c.1 in
     record {
       least = record {

@@ -1,6 +1,6 @@
 -- The first reason against a repair.
-use Rattle.std.specs.Prelude.{◌≡◌, ℕ, zero, suc, ◌+◌, ◌*◌, ◌==◌, nat_lt, int_le, ℤ, pos, ◌+ℤ◌, ◌*ℤ◌, unsigned_abs, Bool, true, false, ◌&&◌, if◌then◌else◌}
-use Rattle.std.specs.Prelude.{Option, Some, None, Result, Ok, Err, List, [], ◌∷◌, ◌++◌, length, map}
+use Rattle.std.specs.Prelude.{◌≡◌, ℕ, zero, suc, ◌+◌, ◌*◌, ◌==◌, nat_lt, int_le, ℤ, pos, ◌+ℤ◌, ◌*ℤ◌, unsigned_abs}
+use Rattle.std.specs.Prelude.{Bool, true, false, ◌&&◌, if◌then◌else◌, Option, Some, None, Result, Ok, Err, List, [], ◌∷◌, ◌++◌, length, map}
 use Rattle.std.specs.Cmp.Lexicographic.{pointwise}
 use Rattle.std.specs.Ordering.{int_eq}
 use mathlib.Core.Bool.{beq}
@@ -9,7 +9,6 @@ use Rattle.ps_meaning.specs.declared.side.Side.TheVariants.{AtLeast, AtMost, Exa
 use Rattle.ps_meaning.specs.Formula.{World}
 use Rattle.ps_meaning.specs.Distribution.{Entry, total}
 use Rattle.ps_meaning.specs.Rational.{Rational}
-use Rattle.ps_meaning.specs.Rows as meaning
 use Rattle.ps_problem.specs.declared.row.Row.{Row}
 use Rattle.ps_problem.specs.Problems.{Parts}
 use Rattle.ps_pb.specs.Steps.{Known, Step, first_refusal, ends_in_contradiction}
@@ -26,11 +25,11 @@ use Rattle.ps_repair_answer.specs.declared.answer.Widening.{Widening}
 use Rattle.ps_repair_answer.specs.declared.answer.Repair.{Repair}
 use Rattle.ps_repair_answer.specs.declared.answer.Repair.TheVariants.{Found, Open}
 use Rattle.ps_repair_answer.specs.declared.repair_fault.RepairFault.{RepairFault}
-use Rattle.ps_repair_answer.specs.declared.repair_fault.RepairFault.TheVariants.{WrongShape, TooManyWorlds, WeightZero, WorldTwice}
-use Rattle.ps_repair_answer.specs.declared.repair_fault.RepairFault.TheVariants.{TotalWrong, ValueMissed, WidenWrong, HeadWrong}
+use Rattle.ps_repair_answer.specs.declared.repair_fault.RepairFault.TheVariants.{WrongShape, TooManyWorlds, WeightZero}
+use Rattle.ps_repair_answer.specs.declared.repair_fault.RepairFault.TheVariants.{WorldTwice, TotalWrong, ValueMissed, WidenWrong, HeadWrong}
 use Rattle.ps_repair_answer.specs.declared.repair_fault.RepairFault.TheVariants.{MultiplierSign, StakeTooLarge, StepRefused}
 use Rattle.ps_repair_answer.specs.declared.repair_fault.RepairFault.TheVariants.{NotRefuted, NoMemory}
-use Rattle.ps_repair_answer.specs.Shown.{widenings_in, same_widenings}
+use Rattle.ps_repair_answer.specs.Shown.{told_widenings, same_widenings}
 
 -- a reason, or else what comes later
 abbrev pub fault_or : Option RepairFault → Option RepairFault → Option RepairFault
@@ -71,14 +70,15 @@ model_fault bounds m =
     else fault_or (entry_fault [] 1 (entries m.worlds)) (unless_so (has_total m) TotalWrong)
 
 -- ---- the widenings
--- the widenings of a distribution sum to the value
-abbrev pub has_widening : ℕ → List meaning.Row → Rational → List Entry → Bool
-has_widening unit rows value d = int_eq (pos (missed rows d) *ℤ pos value.under) (value.over *ℤ (pos unit *ℤ total d))
+-- the widenings of a model sum to the value
+abbrev pub has_value : Parts → Rational → Model → Bool
+has_value p value m = int_eq (pos (missed (widened_rows p) (entries m.worlds)) *ℤ pos value.under)
+    (value.over *ℤ (pos (unit_of p) *ℤ total (entries m.worlds)))
 
 -- the first reason against the value and the widenings that are told of a model
-abbrev pub widening_fault : ℕ → List meaning.Row → Rational → List Entry → List Widening → Option RepairFault
-widening_fault unit rows value d ws =
-    fault_or (unless_so (has_widening unit rows value d) ValueMissed) (unless_so (same_widenings ws (widenings_in unit rows d)) WidenWrong)
+abbrev pub widening_fault : Parts → Rational → Model → List Widening → Option RepairFault
+widening_fault p value m ws =
+    fault_or (unless_so (has_value p value m) ValueMissed) (unless_so (same_widenings ws (told_widenings p m)) WidenWrong)
 
 -- ---- the dual
 -- head over top is the value
@@ -114,8 +114,8 @@ run_fault (Some refused) ends = Some (StepRefused refused.0 refused.1)
 run_fault None true = None
 run_fault None false = Some NotRefuted
 
--- what is known before the first step of a book: the clauses of the problem's formulas, and the goal that the head and the rows in
--- the common unit, each times its multiplier, sum to at least 1
+-- what is known before the first step of a book: the clauses of the problem's formulas, and the goal that the head and the rows
+-- in the common unit, each times its multiplier, sum to at least 1
 abbrev pub book_start : Parts → Dual → Known
 book_start p d = first_known (form_of p.nodes) (goal_of (combination_by (scaled_rows p) Nothing None 0 d))
 
@@ -140,7 +140,7 @@ abbrev pub found_fault : Parts → Rational → Model → Dual → List Widening
 found_fault p value m d ws =
     fault_or (unless_so (has_shape p m d) WrongShape)
     (fault_or (model_fault (length (scaled_rows p)) m)
-    (fault_or (widening_fault (unit_of p) (widened_rows p) value (entries m.worlds) ws) (book_fault p value d)))
+    (fault_or (widening_fault p value m ws) (book_fault p value d)))
 
 -- the first reason against a repair with its widenings; against an open one there is none
 abbrev pub fault_of : Parts → Repair → List Widening → Option RepairFault

@@ -9,5 +9,5 @@ use Rattle.ps_repair_answer.specs.Shown.{IsShown, IsSmallRepair}
 
 -- a repair that no reason is against is right
 abbrev pub UnfaultedAreShown : Type 0
-UnfaultedAreShown = (p : Parts) (r : Repair) (ws : List Widening) → AreParts p → IsScaled p → IsSmallRepair r → fault_of p r ws ≡ None
-    → IsShown p r ws
+UnfaultedAreShown = (p : Parts) (r : Repair) (ws : List Widening) → AreParts p → IsScaled p → IsSmallRepair r
+    → fault_of p r ws ≡ None → IsShown p r ws

@@ -1,5 +1,6 @@
 -- What a repair says of a problem, and the widenings of a distribution.
-use Rattle.std.specs.Prelude.{◌≡◌, ◌≤◌, ℕ, suc, ◌+◌, ◌*◌, ◌==◌, ℤ, pos, ◌≤ℤ◌, unsigned_abs, All, Bool, ◌&&◌, if◌then◌else◌, List, [], ◌∷◌, length}
+use Rattle.std.specs.Prelude.{◌≡◌, ◌≤◌, ℕ, suc, ◌+◌, ◌*◌, ◌==◌, ℤ, pos, ◌≤ℤ◌, unsigned_abs, All, Bool, ◌&&◌}
+use Rattle.std.specs.Prelude.{if◌then◌else◌, List, [], ◌∷◌, length}
 use Rattle.std.specs.Cmp.Lexicographic.{pointwise}
 use Rattle.std.specs.Ordering.{int_eq}
 use Rattle.ps_meaning.specs.Distribution.{Entry, total}
@@ -35,6 +36,10 @@ widenings_from n unit (r ∷ rs) d =
 abbrev pub widenings_in : ℕ → List Row → List Entry → List Widening
 widenings_in unit rows d = widenings_from 1 unit rows d
 
+-- the widenings above 0 of a problem's bounds in a model
+abbrev pub told_widenings : Parts → Model → List Widening
+told_widenings p m = widenings_in (unit_of p) (widened_rows p) (entries m.worlds)
+
 -- two widenings are of the same bound and by as much
 abbrev pub same_widening : Widening → Widening → Bool
 same_widening a b = (a.bound == b.bound) && (int_eq a.by.over b.by.over && (a.by.under == b.by.under))
@@ -43,13 +48,13 @@ same_widening a b = (a.bound == b.bound) && (int_eq a.by.over b.by.over && (a.by
 abbrev pub same_widenings : List Widening → List Widening → Bool
 same_widenings xs ys = pointwise same_widening xs ys
 
--- the value is the least widening, the model has it on at most one world more than there are bounds, with the sum of its weights as
--- total, and the dual is a Dutch book of as much
+-- the value is the least widening, the model has it on at most one world more than there are bounds, with the sum of its weights
+-- as total, and the dual is a Dutch book of as much
 pub record IsRepaired (p : Parts) (value : Rational) (m : Model) (d : Dual) (ws : List Widening) : Type 0 where
   pub least : IsLeastWidening (length p.names) (unit_of p) (widened_rows p) value (entries m.worlds)
   pub few : length m.worlds ≤ length (bounds_of p) + 1
   pub total : m.total ≡ total (entries m.worlds)
-  pub widenings : ws ≡ widenings_in (unit_of p) (widened_rows p) (entries m.worlds)
+  pub widenings : ws ≡ told_widenings p m
   pub book : IsBook (length p.names) (unit_of p) (widened_rows p) value (dual_of d)
 
 -- each world of a model has the problem's atoms, and its total is the sum of its weights, and at least 1

@@ -117,6 +117,8 @@ fn steps_fault(
     requires small { IsSmallDual dual.now }
     ensures { IfOk result (λ o. o ≡ steps_fault problem.now dual.now) }
 {
+    // Read for its clauses: the nodes are few.
+    let _nodes = problem.rows();
     let rows = common.rows.as_slice();
     let sum = combination_of(alloc, rows, ClaimKind::Nothing, None, 0, dual)?;
     let mut checker = checker_of(alloc, problem, &sum)?;

@@ -1,18 +1,17 @@
 //! The check of repairs.
-ghost use Rattle.std.specs.Prelude.{◌≡◌, ◌≤ℤ◌, pos, All, IfOk, length};
-ghost use Rattle.ps_meaning.specs.Distribution.{total};
-ghost use Rattle.ps_claims.specs.Certificates.{IsSmallDual, entries};
+ghost use Rattle.std.specs.Prelude.{◌≡◌, IfOk};
+ghost use Rattle.ps_claims.specs.Certificates.{IsSmallDual};
 ghost use Rattle.ps_valid.specs.Limits.{IsSmallModel};
 ghost use Rattle.ps_widening.specs.Common.{IsCommon};
-ghost use Rattle.ps_widening.specs.Units.{IsScaled, unit_of, widened_rows};
+ghost use Rattle.ps_widening.specs.Units.{IsScaled};
 ghost use Rattle.ps_repair_answer.specs.Faults.{has_shape, fault_of, found_fault, AnswersRepair};
 ghost use Rattle.ps_repair_answer.specs.Faults.{widening_fault};
 ghost use Rattle.ps_repair_answer.specs.Shown.{HasWeights, IsShown, IsCounted, IsSmallRepair};
-ghost use Rattle.ps_repair_answer.specs.Shown.{same_widening, same_widenings, widenings_in};
+ghost use Rattle.ps_repair_answer.specs.Shown.{same_widening, same_widenings, told_widenings};
 
 use crate::answer::{Repair, Widening, Widenings};
-use crate::booking::{book_fault, is_quotient, same};
-use crate::missing::{missed, truth_table, widenings};
+use crate::booking::{book_fault, same};
+use crate::modelled::{has_value, model_widenings, table_of};
 use crate::repair_fault::RepairFault;
 use crate::shapes::{have_atoms, model_fault};
 use ps_answer::{Dual, Model};
@@ -32,20 +31,11 @@ pub fn widenings_of(
     requires scaled { IsScaled problem.now }
     requires small { IsSmallModel model.now }
     requires weights { HasWeights problem.now model.now }
-    ensures { IfOk result
-        (λ r. r ≡ widenings_in (unit_of problem.now) (widened_rows problem.now)
-            (entries model.now.worlds)) }
+    ensures { IfOk result (λ r. r ≡ told_widenings problem.now model.now) }
 {
     let common = scaled_rows(alloc, problem)?;
-    let table = truth_table(alloc, problem.formulas(), model.worlds.as_slice())?;
-    let whole = i128::from(common.unit) * model.total;
-    widenings(
-        alloc,
-        common.rows.as_slice(),
-        whole,
-        model.worlds.as_slice(),
-        table.as_slice(),
-    )
+    let table = table_of(alloc, problem, model)?;
+    model_widenings(alloc, problem, &common, model, table.as_slice())
 }
 
 // Whether two widenings are of the same bound and by as much.
@@ -83,17 +73,13 @@ fn widening_fault(
     requires small { IsSmallModel model.now }
     requires weights { HasWeights problem.now model.now }
     ensures { IfOk result
-        (λ o. o ≡ widening_fault (unit_of problem.now) (widened_rows problem.now) value.now
-            (entries model.now.worlds) told.now) }
+        (λ o. o ≡ widening_fault problem.now value.now model.now told.now) }
 {
-    let worlds = model.worlds.as_slice();
-    let rows = common.rows.as_slice();
-    let table = truth_table(alloc, problem.formulas(), worlds)?;
-    let whole = i128::from(common.unit) * model.total;
-    if !is_quotient(value, missed(rows, worlds, table.as_slice()), whole) {
+    let table = table_of(alloc, problem, model)?;
+    if !has_value(problem, common, value, model, table.as_slice()) {
         return Ok(Some(RepairFault::ValueMissed));
     }
-    let found = widenings(alloc, rows, whole, worlds, table.as_slice())?;
+    let found = model_widenings(alloc, problem, common, model, table.as_slice())?;
     if same_widenings(told, found.as_slice()) {
         Ok(None)
     } else {

@@ -7,6 +7,7 @@ mod booking;
 mod checking;
 mod laws;
 mod missing;
+mod modelled;
 mod repair_fault;
 mod running;
 mod shapes;

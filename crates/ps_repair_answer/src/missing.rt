@@ -2,6 +2,7 @@
 ghost use Rattle.std.specs.Prelude.{◌≡◌, ◌≤◌, ◌<◌, ◌+◌, ◌*◌, ◌*ℤ◌, ◌<ℤ◌, ◌++◌, pos, All, IfOk, length};
 ghost use Rattle.std.specs.Prelude.{unsigned_abs};
 ghost use Rattle.ps_meaning.specs.declared.limits.TheConstants.{PRINTED_LIMIT};
+ghost use Rattle.ps_meaning.specs.Rational.{fraction};
 ghost use Rattle.ps_formula.specs.Nodes.{AtomBelow};
 ghost use Rattle.ps_problem.specs.declared.limits.TheConstants.{MOST_BOUNDS, MOST_SIZES};
 ghost use Rattle.ps_widening.specs.Widenings.{missed_by};
@@ -53,7 +54,8 @@ fn row_sum(row: &Row, worlds: &[Weighted], table: &[List<bool>]) -> i128
 {
     let mut sum = 0;
     for i in 0..worlds.len() {
-        sum += part(worlds[i].weight, row.value(table[i].as_slice()));
+        let value = row.value(table[i].as_slice());
+        sum += part(worlds[i].weight, value);
     }
     sum
 }
@@ -96,6 +98,20 @@ pub(crate) fn missed(rows: &[Row], worlds: &[Weighted], table: &[List<bool>]) ->
     sum
 }
 
+// The widening of the row of this number, which is missed by so much; `whole` is the unit times the
+// total.
+fn widening(number: u32, miss: i128, whole: i128) -> Widening
+    requires miss { unsigned_abs miss ≤ most_sum }
+    requires whole { pos 0 <ℤ whole }
+    ensures bound { result.bound ≡ number }
+    ensures by { result.by ≡ fraction miss (unsigned_abs whole) }
+{
+    Widening {
+        bound: number,
+        by: Fraction::new(miss, whole),
+    }
+}
+
 /// The widenings above 0 of rows, where `whole` is the unit times the total.
 pub(crate) fn widenings(
     alloc: Global,
@@ -108,17 +124,14 @@ pub(crate) fn widenings(
     requires rows { All (Covers table.now) rows.now }
     requires few { length rows.now ≤ MOST_BOUNDS }
     requires whole { pos 0 <ℤ whole }
-    ensures { IfOk result
-        (λ r. r ≡ table_widenings 1 (unsigned_abs whole) worlds.now table.now rows.now) }
+    ensures { IfOk result (λ r. r
+        ≡ table_widenings 1 (unsigned_abs whole) worlds.now table.now rows.now) }
 {
     let mut found = List::new(alloc);
     for i in 0..rows.len() {
         let miss = miss(&rows[i], worlds, table);
         if miss > 0 {
-            found.push(Widening {
-                bound: i as u32 + 1,
-                by: Fraction::new(miss, whole),
-            })?;
+            found.push(widening(i as u32 + 1, miss, whole))?;
         }
     }
     Ok(found)
