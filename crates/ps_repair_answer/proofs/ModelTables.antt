@@ -1,5 +1,5 @@
 -- Tables of a problem's nodes in the worlds of a model.
-use Rattle.std.proofs.Common.{◌≡◌, ℕ, ◌*◌, ℤ, pos, ◌*ℤ◌, ◌<ℤ◌, ◌≤ℤ◌, ◌≤◌, unsigned_abs, Bool, List, length, map, All, sym, ap, ◌∙◌, arith}
+use Rattle.std.proofs.Common.{◌≡◌, ℕ, ℤ, pos, ◌*ℤ◌, ◌<ℤ◌, ◌≤ℤ◌, ◌≤◌, unsigned_abs, Bool, List, length, All, ap, ◌∙◌, arith}
 use Rattle.std.proofs.lemmas.Int.{ints, unsigned_abs-mul}
 use Rattle.ps_meaning.specs.Distribution.{total}
 use Rattle.ps_formula.specs.Nodes.{AtomBelow}
@@ -32,7 +32,7 @@ told-model p m ts rs whole t s w =
     ∙ widenings-are p.nodes (unit_of p) (unsigned_abs whole) m.worlds ts (scaled_rows p) t (ap unsigned_abs w ∙ unsigned_abs-mul (pos (unit_of p)) (total (entries m.worlds)))
 
 pub whole-positive : (unit : ℕ) (t w : ℤ) → 1 ≤ unit → pos 1 ≤ℤ t → w ≡ pos unit *ℤ t → pos 0 <ℤ w
-whole-positive unit t w some positive e = 
+whole-positive unit t w some positive e =
     let h = times-more (pos 1) (pos unit) t (omega (arith, ints, some)) (omega (arith, ints, positive)) in
     let one = *ℤ_comm (pos 1) t ∙ mul-one t in
     omega (arith, ints, h, one, positive, e)

@@ -1,14 +1,12 @@
 -- Sums over worlds by tables of truths, and what they are of distributions.
-use Rattle.std.proofs.Common.{◌≡◌, ℕ, zero, suc, ◌+◌, ◌*◌, ◌^◌, ◌==◌, ◌<◌, ◌≤◌, ℤ, pos, ◌+ℤ◌, ◌*ℤ◌, ◌≤ℤ◌, ◌<ℤ◌, Bool, true, false, cond, List, [], ◌∷◌, ◌++◌, length, map, get_or, take, drop, drop-cons, unsigned_abs, FitsSigned, to_z, of_z, All, refl, sym, ap, subst, ◌∙◌, arith}
+use Rattle.std.proofs.Common.{◌≡◌, ℕ, suc, ◌+◌, ◌*◌, ◌==◌, ◌<◌, ◌≤◌, ℤ, pos, ◌+ℤ◌, ◌*ℤ◌, Bool, true, false, cond, List, [], ◌∷◌, ◌++◌, length, map, get_or, take, drop, unsigned_abs, FitsSigned, to_z, of_z, All, refl, sym, ap, ◌∙◌, arith}
 use Rattle.std.specs.Int.{w64, w128}
 use Rattle.std.proofs.lemmas.Int.{ints, to_z-of_z, fits_signed_from_abs}
 use Rattle.std.proofs.lemmas.Bool.Decides.{nat_tests}
 use Rattle.std.proofs.lemmas.List.{drop_more, drop_all, length-map, take_more, map-append, append_assoc, append-nil, get_or-map}
-use Rattle.std.proofs.lemmas.List.Elements.{All-head, All-tail}
 use Rattle.ps_meaning.specs.Rational.{fraction}
 use Rattle.ps_meaning.specs.Formula.{World, is_true}
-use Rattle.ps_meaning.specs.Distribution.{Entry, total}
-use Rattle.ps_meaning.specs.Rows as meaning
+use Rattle.ps_meaning.specs.Distribution.{total}
 use Rattle.ps_meaning.specs.Rows.{indicator, terms_in, row_in, weighted_sum}
 use Rattle.ps_meaning.proofs.Integers.{mul-zero, mul-one}
 use Rattle.ps_formula.specs.Nodes.{truths}
@@ -16,15 +14,15 @@ use Rattle.ps_formula.specs.declared.node.Node.{Node}
 use Rattle.ps_formula.proofs.Trees.{truths-at, length-truths}
 use Rattle.ps_problem.specs.declared.row.Row.{Row}
 use Rattle.ps_problem.specs.Problems.{tree_at, weights_at}
-use Rattle.ps_problem.specs.Rows.{HasTerm, IsRow, row_over, term_over, terms_over, row_of, row_size}
+use Rattle.ps_problem.specs.Rows.{IsRow, row_over, term_over, terms_over, row_of}
 use Rattle.ps_answer.specs.declared.answer.Weighted.{Weighted}
-use Rattle.ps_claims.specs.Certificates.{entry_of, entries}
+use Rattle.ps_claims.specs.Certificates.{entries}
 use Rattle.ps_valid.specs.Limits.{IsAmount, AreSmall}
 use Rattle.ps_problem.specs.declared.limits.TheConstants.{MOST_SIZES}
 use Rattle.ps_widening.specs.Widenings.{miss, missed, missed_by}
 use Rattle.ps_repair_answer.specs.declared.answer.Widening.{Widening}
 use Rattle.ps_repair_answer.specs.Covered.{IsTable, Covers, most_part, most_sum}
-use Rattle.ps_repair_answer.specs.Shown.{widening_of, widenings_from}
+use Rattle.ps_repair_answer.specs.Shown.{widenings_from}
 use Rattle.ps_repair_answer.specs.Tables.{truths_in, table_sum, table_miss, table_missed, table_widenings}
 
 small-back : (z : ℤ) → unsigned_abs z ≤ 100 * most_sum → to_z w128 (of_z w128 z) ≡ z

@@ -1,7 +1,6 @@
 -- Repairs that no reason is against.
-use Rattle.std.proofs.Common.{◌≡◌, ◌≢◌, ℕ, zero, suc, ◌+◌, ◌*◌, ◌==◌, ◌<◌, ◌≤◌, ℤ, pos, negsuc, ◌+ℤ◌, ◌*ℤ◌, ◌≤ℤ◌, unsigned_abs, Bool, true, false, cond, ◌&&◌, inl, inr, Option, Some, None, List, [], ◌∷◌, ◌++◌, length, map, get_or, All, AllPairs, refl, sym, ap, subst, ◌∙◌, arith}
+use Rattle.std.proofs.Common.{◌≡◌, ◌≢◌, ℕ, zero, suc, ◌+◌, ◌*◌, ◌==◌, ◌<◌, ◌≤◌, ℤ, pos, negsuc, ◌+ℤ◌, ◌≤ℤ◌, unsigned_abs, Bool, true, false, cond, ◌&&◌, inl, inr, Option, Some, None, List, [], ◌∷◌, ◌++◌, length, map, get_or, All, AllPairs, refl, sym, ap, subst, ◌∙◌, arith}
 use Rattle.std.specs.Prelude.{nat_lt, int_le}
-use Rattle.std.specs.List.{AllZip}
 use Rattle.std.specs.Bool.{Decides}
 use Rattle.std.specs.Cmp.{booleans_Decides}
 use Rattle.std.specs.Cmp.Lexicographic.{pointwise}
@@ -12,32 +11,29 @@ use Rattle.std.proofs.lemmas.Bool.{eqb-true, cases_Bool}
 use Rattle.std.proofs.lemmas.Bool.Decides.{Decides-int_eq, Decides-eqb, Decides-and, Decides-like, nat_tests}
 use Rattle.std.proofs.lemmas.Slice.Eq.{slice_eq-Decides}
 use Rattle.std.proofs.lemmas.List.{length-map, append-nil, append_assoc}
-use Rattle.std.proofs.lemmas.List.Elements.{All-nil, All-cons, All-head, All-tail, All-append, All-push}
+use Rattle.std.proofs.lemmas.List.Elements.{All-nil, All-cons, All-push}
 use Rattle.std.proofs.lemmas.List.Quantifiers.{all_pairs_push}
 use Rattle.ps_meaning.specs.declared.side.Side.{Side}
 use Rattle.ps_meaning.specs.declared.side.Side.TheVariants.{AtLeast, AtMost, Exactly}
 use Rattle.ps_meaning.specs.Formula.{World, Truth}
 use Rattle.ps_meaning.specs.Distribution.{Entry, total, IsDistribution}
 use Rattle.ps_meaning.specs.Rational.{Rational, rational_path}
-use Rattle.ps_meaning.specs.Rows as meaning
 use Rattle.ps_meaning.proofs.Integers.{mul-one}
 use Rattle.ps_meaning.proofs.IntRing.{*ℤ_comm}
 use Rattle.ps_formula.specs.declared.node.Node.{Node}
 use Rattle.ps_problem.specs.declared.row.Row.{Row}
 use Rattle.ps_problem.specs.Problems.{Parts, AreParts, bounds_of, bounds_in, bound_of}
-use Rattle.ps_problem.specs.Rows.{rows_in, row_at, row_of, IsRow}
+use Rattle.ps_problem.specs.Rows.{rows_in, row_of}
 use Rattle.ps_problem.proofs.BoundRows.{rows-length}
 use Rattle.ps_pb.specs.Steps.{Step, Known, Refutes, first_refusal, ends_in_contradiction}
 use Rattle.ps_pb.specs.declared.refused.StepRefused.{StepRefused as Why}
 use Rattle.ps_pb.proofs.Onward.{none-lawful}
-use Rattle.ps_clause.specs.Extensions.{extension}
-use Rattle.ps_answer.specs.declared.answer.Weighted.{Weighted}
 use Rattle.ps_answer.specs.declared.answer.Model.{Model}
 use Rattle.ps_answer.specs.declared.answer.Dual.{Dual}
 use Rattle.ps_claims.specs.declared.claim_kind.ClaimKind.TheVariants.{Nothing}
 use Rattle.ps_claims.specs.Queries.{Query}
-use Rattle.ps_claims.specs.Certificates.{entry_of, entries, dual_of, IsSmallDual}
-use Rattle.ps_claims.specs.Duals.{HasSign, HaveSigns, HasValueHead, IsNeverAbove, sum_of_rows}
+use Rattle.ps_claims.specs.Certificates.{entries, dual_of}
+use Rattle.ps_claims.specs.Duals.{HasSign, HaveSigns, IsNeverAbove, sum_of_rows}
 use Rattle.ps_claims.specs.Goals.{combination_of}
 use Rattle.ps_claims.proofs.NodeSums.{value-nothing, value-combination}
 use Rattle.ps_claims.proofs.Refutations.{refuted-least}
@@ -45,7 +41,7 @@ use Rattle.ps_valid.specs.Limits.{IsSmallModel}
 use Rattle.ps_valid.proofs.ModelFaults.{low_weights}
 use Rattle.ps_valid.proofs.Tables.{shape_of_worlds}
 use Rattle.ps_meaning.proofs.Weights.{total-positive}
-use Rattle.ps_widening.specs.Widenings.{missed, HasWidening, IsLeastWidening}
+use Rattle.ps_widening.specs.Widenings.{missed}
 use Rattle.ps_widening.specs.Books.{IsBook}
 use Rattle.ps_widening.specs.Units.{unit_of, scaled_row, scaled_rows, widened_rows, IsScaled}
 use Rattle.ps_widening.proofs.Books.{book-bounds}
@@ -55,8 +51,8 @@ use Rattle.ps_repair_answer.specs.declared.answer.Repair.{Repair}
 use Rattle.ps_repair_answer.specs.declared.answer.Repair.TheVariants.{Found, Open}
 use Rattle.ps_repair_answer.specs.declared.repair_fault.RepairFault.{RepairFault}
 use Rattle.ps_repair_answer.specs.declared.repair_fault.RepairFault.TheVariants as fault
-use Rattle.ps_repair_answer.specs.Faults.{fault_or, unless_so, have_atoms, is_among, entry_fault, has_total, model_fault, has_value, widening_fault, has_head, has_sign, first_wrong_sign, first_large_stake, numbered, run_fault, book_start, steps_fault, book_fault, has_shape, fault_of}
-use Rattle.ps_repair_answer.specs.Shown.{told_widenings, same_widening, same_widenings, IsRepaired, IsShown, IsSmallRepair, HasWeights}
+use Rattle.ps_repair_answer.specs.Faults.{fault_or, unless_so, have_atoms, is_among, entry_fault, has_total, model_fault, has_value, widening_fault, has_head, has_sign, first_wrong_sign, first_large_stake, numbered, run_fault, book_start, book_fault, has_shape, fault_of}
+use Rattle.ps_repair_answer.specs.Shown.{told_widenings, same_widening, same_widenings, IsShown, IsSmallRepair, HasWeights}
 
 -- ---- reasons
 fault-none : (o later : Option RepairFault) → fault_or o later ≡ None → (o ≡ None) × (later ≡ None)

@@ -1,6 +1,7 @@
 -- The first reason against a repair.
-use Rattle.std.specs.Prelude.{◌≡◌, ℕ, zero, suc, ◌+◌, ◌*◌, ◌==◌, nat_lt, int_le, ℤ, pos, ◌+ℤ◌, ◌*ℤ◌, unsigned_abs}
-use Rattle.std.specs.Prelude.{Bool, true, false, ◌&&◌, if◌then◌else◌, Option, Some, None, Result, Ok, Err, List, [], ◌∷◌, ◌++◌, length, map}
+use Rattle.std.specs.Prelude.{◌≡◌, ℕ, suc, ◌+◌, ◌*◌, ◌==◌, nat_lt, int_le, ℤ, pos, ◌*ℤ◌, unsigned_abs}
+use Rattle.std.specs.Prelude.{Bool, true, false, ◌&&◌, if◌then◌else◌, Option, Some, None, Result, Ok, Err}
+use Rattle.std.specs.Prelude.{List, [], ◌∷◌, ◌++◌, length}
 use Rattle.std.specs.Cmp.Lexicographic.{pointwise}
 use Rattle.std.specs.Ordering.{int_eq}
 use mathlib.Core.Bool.{beq}
@@ -11,7 +12,7 @@ use Rattle.ps_meaning.specs.Distribution.{Entry, total}
 use Rattle.ps_meaning.specs.Rational.{Rational}
 use Rattle.ps_problem.specs.declared.row.Row.{Row}
 use Rattle.ps_problem.specs.Problems.{Parts}
-use Rattle.ps_pb.specs.Steps.{Known, Step, first_refusal, ends_in_contradiction}
+use Rattle.ps_pb.specs.Steps.{Known, first_refusal, ends_in_contradiction}
 use Rattle.ps_pb.specs.declared.refused.StepRefused.{StepRefused as Why}
 use Rattle.ps_clause.specs.Forms.{form_of, first_known}
 use Rattle.ps_answer.specs.declared.answer.Model.{Model}
@@ -26,9 +27,9 @@ use Rattle.ps_repair_answer.specs.declared.answer.Repair.{Repair}
 use Rattle.ps_repair_answer.specs.declared.answer.Repair.TheVariants.{Found, Open}
 use Rattle.ps_repair_answer.specs.declared.repair_fault.RepairFault.{RepairFault}
 use Rattle.ps_repair_answer.specs.declared.repair_fault.RepairFault.TheVariants.{WrongShape, TooManyWorlds, WeightZero}
-use Rattle.ps_repair_answer.specs.declared.repair_fault.RepairFault.TheVariants.{WorldTwice, TotalWrong, ValueMissed, WidenWrong, HeadWrong}
-use Rattle.ps_repair_answer.specs.declared.repair_fault.RepairFault.TheVariants.{MultiplierSign, StakeTooLarge, StepRefused}
-use Rattle.ps_repair_answer.specs.declared.repair_fault.RepairFault.TheVariants.{NotRefuted, NoMemory}
+use Rattle.ps_repair_answer.specs.declared.repair_fault.RepairFault.TheVariants.{WorldTwice, TotalWrong, ValueMissed, WidenWrong}
+use Rattle.ps_repair_answer.specs.declared.repair_fault.RepairFault.TheVariants.{HeadWrong, MultiplierSign, StakeTooLarge}
+use Rattle.ps_repair_answer.specs.declared.repair_fault.RepairFault.TheVariants.{StepRefused, NotRefuted, NoMemory}
 use Rattle.ps_repair_answer.specs.Shown.{told_widenings, same_widenings}
 
 -- a reason, or else what comes later

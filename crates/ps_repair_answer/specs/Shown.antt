@@ -1,5 +1,5 @@
 -- What a repair says of a problem, and the widenings of a distribution.
-use Rattle.std.specs.Prelude.{◌≡◌, ◌≤◌, ℕ, suc, ◌+◌, ◌*◌, ◌==◌, ℤ, pos, ◌≤ℤ◌, unsigned_abs, All, Bool, ◌&&◌}
+use Rattle.std.specs.Prelude.{◌≡◌, ◌≤◌, ℕ, suc, ◌+◌, ◌*◌, ◌==◌, pos, ◌≤ℤ◌, unsigned_abs, All, Bool, ◌&&◌}
 use Rattle.std.specs.Prelude.{if◌then◌else◌, List, [], ◌∷◌, length}
 use Rattle.std.specs.Cmp.Lexicographic.{pointwise}
 use Rattle.std.specs.Ordering.{int_eq}
@@ -10,7 +10,6 @@ use Rattle.ps_problem.specs.Problems.{Parts, bounds_of}
 use Rattle.ps_answer.specs.declared.answer.Model.{Model}
 use Rattle.ps_answer.specs.declared.answer.Dual.{Dual}
 use Rattle.ps_claims.specs.Certificates.{entries, dual_of}
-use Rattle.ps_claims.specs.Answers as claimed
 use Rattle.ps_valid.specs.declared.refusal.Accepted.{Accepted}
 use Rattle.ps_valid.specs.Limits.{IsSmallModel}
 use Rattle.ps_claims.specs.Certificates.{IsSmallDual}

@@ -1,5 +1,6 @@
 -- What a model misses, by the truth of each node in each world.
-use Rattle.std.specs.Prelude.{ℕ, suc, ◌+◌, ◌==◌, ℤ, pos, ◌+ℤ◌, ◌*ℤ◌, Bool, if◌then◌else◌, List, [], ◌∷◌, map}
+use Rattle.std.specs.Prelude.{ℕ, suc, ◌+◌, ◌==◌, ℤ, pos, ◌+ℤ◌, ◌*ℤ◌, unsigned_abs, Bool, if◌then◌else◌}
+use Rattle.std.specs.Prelude.{List, [], ◌∷◌, map}
 use Rattle.ps_meaning.specs.Rational.{fraction}
 use Rattle.ps_formula.specs.Nodes.{truths}
 use Rattle.ps_formula.specs.declared.node.Node.{Node}
@@ -34,3 +35,7 @@ table_widenings n whole ws ts [] = []
 table_widenings n whole ws ts (r ∷ rs) =
     if table_miss ws ts r == 0 then table_widenings (suc n) whole ws ts rs
     else record { bound = n; by = fraction (pos (table_miss ws ts r)) whole } ∷ table_widenings (suc n) whole ws ts rs
+
+-- the widenings above 0, by the numbers of the rows from 1
+abbrev pub all_widenings : ℤ → List Weighted → List (List Bool) → List Row → List Widening
+all_widenings whole ws ts rs = table_widenings 1 (unsigned_abs whole) ws ts rs

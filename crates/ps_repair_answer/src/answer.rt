@@ -28,5 +28,8 @@ pub enum Repair {
         trace: Trace,
     },
     /// A limit was reached, and nothing is claimed.
-    Open { cause: Cause, trace: Trace },
+    Open {
+        cause: Cause,
+        trace: Trace,
+    },
 }

@@ -23,11 +23,7 @@ use ps_widening::{CommonRows, scaled_rows};
 use std::alloc::Global;
 
 /// The widenings above 0 of a problem's bounds in a model.
-pub fn widenings_of(
-    alloc: Global,
-    problem: &Problem,
-    model: &Model,
-) -> Result<Widenings, NoMemory>
+pub fn widenings_of(alloc: Global, problem: &Problem, model: &Model) -> Result<Widenings, NoMemory>
     requires scaled { IsScaled problem.now }
     requires small { IsSmallModel model.now }
     requires weights { HasWeights problem.now model.now }
@@ -135,7 +131,10 @@ fn fault_of(
 {
     match repair {
         Repair::Found {
-            value, model, dual, ..
+            value,
+            model,
+            dual,
+            ..
         } => found_fault(alloc, problem, value, model, dual, told),
         Repair::Open { .. } => Ok(None),
     }

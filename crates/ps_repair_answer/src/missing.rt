@@ -9,7 +9,7 @@ ghost use Rattle.ps_widening.specs.Widenings.{missed_by};
 ghost use Rattle.ps_valid.specs.Limits.{IsAmount, AreSmall};
 ghost use Rattle.ps_repair_answer.specs.Covered.{IsTable, Covers, most_part, most_sum};
 ghost use Rattle.ps_repair_answer.specs.Tables.{truths_in, table_sum, table_miss, table_missed};
-ghost use Rattle.ps_repair_answer.specs.Tables.{table_widenings};
+ghost use Rattle.ps_repair_answer.specs.Tables.{all_widenings};
 
 use crate::answer::{Widening, Widenings};
 use ps_answer::Weighted;
@@ -124,8 +124,7 @@ pub(crate) fn widenings(
     requires rows { All (Covers table.now) rows.now }
     requires few { length rows.now ≤ MOST_BOUNDS }
     requires whole { pos 0 <ℤ whole }
-    ensures { IfOk result (λ r. r
-        ≡ table_widenings 1 (unsigned_abs whole) worlds.now table.now rows.now) }
+    ensures { IfOk result (λ r. r ≡ all_widenings whole worlds.now table.now rows.now) }
 {
     let mut found = List::new(alloc);
     for i in 0..rows.len() {

@@ -36,12 +36,7 @@ pub(crate) fn table_of(
 }
 
 // By how much a model misses a problem's bounds in all, counted in their common unit.
-fn model_missed(
-    problem: &Problem,
-    common: &CommonRows,
-    model: &Model,
-    table: &[List<bool>],
-) -> i128
+fn model_missed(problem: &Problem, common: &CommonRows, model: &Model, table: &[List<bool>]) -> i128
     requires common { IsCommon problem.now common.now }
     requires small { IsSmallModel model.now }
     requires table { table.now ≡ truths_in problem.now.nodes model.now.worlds }

@@ -9,8 +9,8 @@ use Rattle.ps_widening.specs.Books.{IsBook}
 
 -- no distribution has a widening below the value of a Dutch book
 abbrev pub BooksBoundWidenings : Type 0
-BooksBoundWidenings = (atoms unit : ℕ) (rows : List Row) (value : Rational) (d : Dual) (e : List Entry) → IsBook atoms unit rows value d
-    → IsDistribution atoms e → IsWidenedAtLeast unit rows value e
+BooksBoundWidenings = (atoms unit : ℕ) (rows : List Row) (value : Rational) (d : Dual) (e : List Entry)
+    → IsBook atoms unit rows value d → IsDistribution atoms e → IsWidenedAtLeast unit rows value e
 
 -- where rows are widened so that a distribution meets them, their widenings sum to no less than the least widening
 abbrev pub LeastWideningsBoundSums : Type 0

@@ -1,5 +1,6 @@
 -- The common unit of rows: the least common multiple of their units, in which the numbers of each are whole.
-use Rattle.std.specs.Prelude.{◌≡◌, ℕ, suc, ◌*◌, ◌/◌, nat_lt, Bool, if◌then◌else◌, ℤ, pos, ◌*ℤ◌, List, [], ◌∷◌, map, Option, Some, None, Result, Ok, Err}
+use Rattle.std.specs.Prelude.{◌≡◌, ℕ, suc, ◌*◌, ◌/◌, nat_lt, Bool, if◌then◌else◌, ℤ, pos, ◌*ℤ◌}
+use Rattle.std.specs.Prelude.{List, [], ◌∷◌, map, Option, Some, None, Result, Ok, Err}
 use Rattle.ps_meaning.specs.Gcd.{lcm}
 use Rattle.ps_meaning.specs.Rows as meaning
 use Rattle.ps_problem.specs.declared.limits.TheConstants.{GREATEST_SCALE, MOST_SIZES}

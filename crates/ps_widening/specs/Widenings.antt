@@ -24,8 +24,8 @@ abbrev pub missed : List Row → List Entry → ℕ
 missed [] d = 0
 missed (r ∷ rs) d = miss r d + missed rs d
 
--- by rows that count in one over a unit, the widening of a row in a distribution is what it misses over unit times total, and that
--- of the distribution is the sum of these: it is the value
+-- by rows that count in one over a unit, the widening of a row in a distribution is what it misses over unit times total, and
+-- that of the distribution is the sum of these: it is the value
 abbrev pub HasWidening : ℕ → List Row → Rational → List Entry → Type 0
 HasWidening unit rows value d = (value.over *ℤ (pos unit *ℤ total d)) ≡ (pos value.under *ℤ pos (missed rows d))
 

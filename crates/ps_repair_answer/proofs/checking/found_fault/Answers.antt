@@ -1,5 +1,4 @@
 use Rattle.std.proofs.Common.{sym, ap, ◌∙◌, length}
-use Rattle.ps_widening.specs.Units.{scaled_rows}
 use Rattle.ps_repair_answer.specs.Faults.{model_fault}
 use Rattle.ps_repair_answer.proofs.Unfaulted.{weights-right}
 use Rattle.ps_repair_answer.proofs.checking.found_fault.Goals as goal

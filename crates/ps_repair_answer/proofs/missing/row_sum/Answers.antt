@@ -1,6 +1,5 @@
-use Rattle.std.proofs.Common.{◌≡◌, ◌*ℤ◌, get_or, to_z, of_z, arith}
-use Rattle.std.specs.Int.{w64, w128}
-use Rattle.std.proofs.lemmas.Int.{ints}
+use Rattle.std.proofs.Common.{◌≡◌, ◌*ℤ◌, get_or, to_z}
+use Rattle.std.specs.Int.{w128}
 use Rattle.ps_problem.specs.Rows.{row_over}
 use Rattle.ps_repair_answer.proofs.TableSums.{value-back, weight-back, sum-machine}
 use Rattle.ps_repair_answer.proofs.missing.row_sum.Goals as goal

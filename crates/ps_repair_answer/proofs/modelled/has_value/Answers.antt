@@ -1,5 +1,4 @@
-use Rattle.std.proofs.Common.{◌≡◌, pos, ◌*ℤ◌, ◌*◌, ◌≤◌, to_z, of_z, unsigned_abs, arith}
-use Rattle.std.specs.Int.{w128}
+use Rattle.std.proofs.Common.{◌≡◌, pos, ◌*ℤ◌, arith}
 use Rattle.std.specs.Ordering.{int_eq}
 use Rattle.ps_meaning.specs.Distribution.{total}
 use Rattle.ps_claims.specs.Certificates.{entries}

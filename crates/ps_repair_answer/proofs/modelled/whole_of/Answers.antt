@@ -1,4 +1,4 @@
-use Rattle.std.proofs.Common.{◌≡◌, ℤ, pos, ◌*ℤ◌, ◌∙◌, arith}
+use Rattle.std.proofs.Common.{◌≡◌, pos, ◌*ℤ◌, ◌∙◌, arith}
 use Rattle.ps_meaning.specs.Distribution.{total}
 use Rattle.ps_claims.specs.Certificates.{entries}
 use Rattle.ps_widening.specs.Units.{unit_of}
