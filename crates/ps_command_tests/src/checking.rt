@@ -6,7 +6,7 @@ use std::test::*;
 
 const ACCEPTED: &str = "accepted: claims 1, open 0\n";
 
-pub const USAGE: &str = "usage: psat solve|explain|check|upgrade|maxsat|check-maxsat|make N \
+pub const USAGE: &str = "usage: psat solve|explain|check|upgrade|maxsat|check-maxsat|ground|make N \
                          [--pivots N|enough] [--conflicts N] [--bytes N]\n";
 
 pub const HALF: &str =

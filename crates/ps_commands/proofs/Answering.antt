@@ -5,7 +5,10 @@ use Rattle.ps_read.specs.Readings.{SpellsProblem, SpellsWhole, Read, Unread}
 use Rattle.ps_read.proofs.OneReading.{one_reading, one_whole_reading}
 use Rattle.ps_problem.specs.Problems.{Parts}
 use Rattle.ps_problem.specs.Written.{items_from}
+use Rattle.ps_text.specs.Canonical.{canonical_text}
 use Rattle.ps_canonical.specs.Lines.{upgraded_text}
+use Rattle.ps_grounder.specs.Readings as grounder
+use Rattle.ps_grounder.proofs.OneGround.{one_ground_problem, ground_excludes}
 use Rattle.ps_runs.specs.declared.limits.Limits.{Limits}
 use Rattle.ps_max_commands.specs.Due.{DueMaxSat, DueCheckMaxSat, IsAnswered}
 use Rattle.ps_max_commands.proofs.OneDue.{answered_whole}
@@ -18,7 +21,7 @@ use Rattle.ps_commands.specs.declared.command.TheConstants.{MOST_PROBLEM}
 use Rattle.ps_messages.specs.declared.status.Status.{Status}
 use Rattle.ps_messages.specs.declared.status.Status.TheVariants as status
 use Rattle.ps_commands.specs.Commands.{Spell, words_of}
-use Rattle.ps_commands.specs.Due.{DueReport, DueText, Spelled, NotRead, DueAnswered, Solved, NoProblem, DueExplained, Explains, NoneExplained, DueUpgraded, Upgraded, NoneUpgraded, DueMade, DueWithin, Within, TooLong, DueFor, Due, ForCommand, ForNone, searched}
+use Rattle.ps_commands.specs.Due.{DueReport, DueText, Spelled, NotRead, DueAnswered, Solved, NoProblem, DueExplained, Explains, NoneExplained, DueUpgraded, Upgraded, NoneUpgraded, DueGrounded, Grounded, NoneGrounded, DueMade, DueWithin, Within, TooLong, DueFor, Due, ForCommand, ForNone, searched}
 use Rattle.ps_messages.specs.Lines.{Output}
 use Rattle.ps_commands.specs.Runs.{Answered, CountsReads, CountsWrites, IsTold, IsGiven, Wrote}
 use Rattle.ps_commands.specs.Answering.{Ends, HasNotFailed, IsFaultless, IsOutOfMemory, HasWritten, IsExplained, IsSolved}
@@ -42,6 +45,7 @@ told (commands.Solve limits enough) left bytes e = e
 told (commands.Explain limits enough) left bytes e = e
 told (commands.Make n limits) left bytes e = tt
 told commands.Upgrade left bytes e = e
+told commands.Ground left bytes e = e
 told (commands.MaxSat n) left bytes e = e
 told (commands.CheckMaxSat n) left bytes e = e
 
@@ -87,6 +91,11 @@ upgraded_whole bytes p o spells (Upgraded q a is) =
 upgraded_whole bytes p o spells (NoneUpgraded kind at u is) =
     let same = one_whole_reading bytes (Read p (length bytes)) (Unread kind at) (spells, refl) u in absurd (cc)
 
+grounded_whole : (bytes : List ℕ) (p : Parts) (o : Output) → grounder.SpellsWhole bytes p → DueGrounded bytes o → o ≡ record { text = canonical_text (items_from p); status = status.Done }
+grounded_whole bytes p o spells (Grounded q a is) =
+    is ∙ ap (λ (x : Parts). record { text = canonical_text (items_from x); status = status.Done }) (one_ground_problem bytes q p a spells)
+grounded_whole bytes p o spells (NoneGrounded kind at u is) = absurd (ground_excludes bytes p kind at spells u)
+
 -- what holds of what is due holds of what was written
 pub written_so : (words : List (String Global)) (c : Command) (old new : Ends) (s : Status) (bytes : List ℕ) (D : Output → Type 0) → Spell (words_of words) c → IsFaultless words old new s
     → old.source.bytes ≡ Some bytes → ((o : Output) → DueFor c bytes o → D o) → HasWritten D s old new ⊎ IsOutOfMemory s old new
@@ -123,6 +132,13 @@ pub problem_upgraded : (words : List (String Global)) (old new : Ends) (s : Stat
 problem_upgraded words old new s bytes p spelled h e few spells =
     written_so words commands.Upgrade old new s bytes (λ o. o ≡ record { text = upgraded_text (items_from p); status = status.Done }) spelled h e
     (λ o due. upgraded_whole bytes p o spells (due_within MOST_PROBLEM DueUpgraded bytes o few due))
+
+pub text_grounded : (words : List (String Global)) (old new : Ends) (s : Status) (bytes : List ℕ) (p : Parts) → Spell (words_of words) commands.Ground
+    → IsFaultless words old new s → old.source.bytes ≡ Some bytes → length bytes ≤ MOST_PROBLEM → grounder.SpellsWhole bytes p
+    → HasWritten (λ o. o ≡ record { text = canonical_text (items_from p); status = status.Done }) s old new ⊎ IsOutOfMemory s old new
+text_grounded words old new s bytes p spelled h e few spells =
+    written_so words commands.Ground old new s bytes (λ o. o ≡ record { text = canonical_text (items_from p); status = status.Done }) spelled h e
+    (λ o due. grounded_whole bytes p o spells (due_within MOST_PROBLEM DueGrounded bytes o few due))
 
 pub clauses_answered : (words : List (String Global)) (conflicts : ℕ) (old new : Ends) (s : Status) (bytes : List ℕ) (t : WcnfText) → Spell (words_of words) (commands.MaxSat conflicts)
     → IsFaultless words old new s → old.source.bytes ≡ Some bytes → length bytes ≤ MOST_PROBLEM → IsRead (lines_of bytes) t

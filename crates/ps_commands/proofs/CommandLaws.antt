@@ -8,7 +8,7 @@ use Rattle.std.proofs.lemmas.List.Elements.{All-nil, All-cons}
 use Rattle.ps_runs.specs.declared.limits.Limits.{Limits}
 use Rattle.ps_generation.specs.Phases.{AreLimits}
 use Rattle.ps_commands.specs.declared.command.Command.{Command}
-use Rattle.ps_commands.specs.declared.command.Command.TheVariants.{Check, CheckMaxSat, Explain, Make, MaxSat, Solve, Upgrade}
+use Rattle.ps_commands.specs.declared.command.Command.TheVariants.{Check, CheckMaxSat, Explain, Ground, Make, MaxSat, Solve, Upgrade}
 use Rattle.ps_commands.specs.declared.command.Limit.{Limit}
 use Rattle.ps_commands.specs.declared.command.Limit.TheVariants.{Bytes, Pivots, Conflicts}
 use Rattle.ps_commands.specs.declared.command.LimitValue.{LimitValue}
@@ -118,6 +118,7 @@ name_of (Solve limits enough) = codes "solve"
 name_of (Explain limits enough) = codes "explain"
 name_of (Make n limits) = codes "make"
 name_of Upgrade = codes "upgrade"
+name_of Ground = codes "ground"
 name_of (MaxSat n) = codes "maxsat"
 name_of (CheckMaxSat n) = codes "check-maxsat"
 
@@ -128,6 +129,7 @@ named words (Solve limits enough) h = (setting_words h.set.spelled.settings, h.s
 named words (Explain limits enough) h = (setting_words h.set.spelled.settings, h.set.spelled.words_are)
 named words (Make n limits) h = (decimal n ∷ setting_words h.set.spelled.settings, h.set.spelled.words_are)
 named words Upgrade h = ([], h)
+named words Ground h = ([], h)
 named words (MaxSat n) h = (setting_words h.spelled.settings, h.spelled.words_are)
 named words (CheckMaxSat n) h = (setting_words h.spelled.settings, h.spelled.words_are)
 
@@ -154,8 +156,8 @@ name_none name words not = record { none = λ c h. not c (name-is name words c h
 
 -- words that no command has a name for
 pub unnamed : (name : List ℕ) (words : List (List ℕ)) → ¬ (name ≡ codes "solve") → ¬ (name ≡ codes "explain") → ¬ (name ≡ codes "make") → ¬ (name ≡ codes "check") → ¬ (name ≡ codes "upgrade")
-    → ¬ (name ≡ codes "maxsat") → ¬ (name ≡ codes "check-maxsat") → SpellNone (name ∷ words)
-unnamed name words p q r t u v w = name_none name words by
+    → ¬ (name ≡ codes "maxsat") → ¬ (name ≡ codes "check-maxsat") → ¬ (name ≡ codes "ground") → SpellNone (name ∷ words)
+unnamed name words p q r t u v w x = name_none name words by
   where
     by : (c : Command) → name ≡ name_of c → ¬ Spell (name ∷ words) c
     by (Check n) e h = t e
@@ -163,6 +165,7 @@ unnamed name words p q r t u v w = name_none name words by
     by (Explain limits enough) e h = q e
     by (Make n limits) e h = r e
     by Upgrade e h = u e
+    by Ground e h = x e
     by (MaxSat n) e h = v e
     by (CheckMaxSat n) e h = w e
 
@@ -232,28 +235,33 @@ one_command words (Explain l e) (Explain m f) a b =
     let same = one_runs (codes "explain") l m e f words a b in ap (λ (x : Limits). Explain x e) same.0 ∙ ap (λ (x : Bool). Explain m x) same.1
 one_command words (Make n l) (Make m k) a b = one_made words n m l k a b
 one_command words Upgrade Upgrade a b = refl
+one_command words Ground Ground a b = refl
 one_command words (Check m) (Solve k f) a b = absurd (apart words (Check m) (Solve k f) (λ x. omega (arith, x)) a b)
 one_command words (Check m) (Explain k f) a b = absurd (apart words (Check m) (Explain k f) (λ x. omega (arith, x)) a b)
 one_command words (Check m) (Make j k) a b = absurd (apart words (Check m) (Make j k) (λ x. omega (arith, x)) a b)
 one_command words (Check m) Upgrade a b = absurd (apart words (Check m) Upgrade (λ x. omega (arith, x)) a b)
+one_command words (Check m) Ground a b = absurd (apart words (Check m) Ground (λ x. omega (arith, x)) a b)
 one_command words (Check m) (MaxSat n) a b = absurd (apart words (Check m) (MaxSat n) (λ x. omega (arith, x)) a b)
 one_command words (Check m) (CheckMaxSat n) a b = absurd (apart words (Check m) (CheckMaxSat n) (λ x. omega (arith, x)) a b)
 one_command words (Solve l e) (Check n) a b = absurd (apart words (Solve l e) (Check n) (λ x. omega (arith, x)) a b)
 one_command words (Solve l e) (Explain k f) a b = absurd (apart words (Solve l e) (Explain k f) (λ x. omega (arith, x)) a b)
 one_command words (Solve l e) (Make j k) a b = absurd (apart words (Solve l e) (Make j k) (λ x. omega (arith, x)) a b)
 one_command words (Solve l e) Upgrade a b = absurd (apart words (Solve l e) Upgrade (λ x. omega (arith, x)) a b)
+one_command words (Solve l e) Ground a b = absurd (apart words (Solve l e) Ground (λ x. omega (arith, x)) a b)
 one_command words (Solve l e) (MaxSat n) a b = absurd (apart words (Solve l e) (MaxSat n) (λ x. omega (arith, x)) a b)
 one_command words (Solve l e) (CheckMaxSat n) a b = absurd (apart words (Solve l e) (CheckMaxSat n) (λ x. omega (arith, x)) a b)
 one_command words (Explain l e) (Check n) a b = absurd (apart words (Explain l e) (Check n) (λ x. omega (arith, x)) a b)
 one_command words (Explain l e) (Solve k f) a b = absurd (apart words (Explain l e) (Solve k f) (λ x. omega (arith, x)) a b)
 one_command words (Explain l e) (Make j k) a b = absurd (apart words (Explain l e) (Make j k) (λ x. omega (arith, x)) a b)
 one_command words (Explain l e) Upgrade a b = absurd (apart words (Explain l e) Upgrade (λ x. omega (arith, x)) a b)
+one_command words (Explain l e) Ground a b = absurd (apart words (Explain l e) Ground (λ x. omega (arith, x)) a b)
 one_command words (Explain l e) (MaxSat n) a b = absurd (apart words (Explain l e) (MaxSat n) (λ x. omega (arith, x)) a b)
 one_command words (Explain l e) (CheckMaxSat n) a b = absurd (apart words (Explain l e) (CheckMaxSat n) (λ x. omega (arith, x)) a b)
 one_command words (Make i l) (Check n) a b = absurd (apart words (Make i l) (Check n) (λ x. omega (arith, x)) a b)
 one_command words (Make i l) (Solve k f) a b = absurd (apart words (Make i l) (Solve k f) (λ x. omega (arith, x)) a b)
 one_command words (Make i l) (Explain k f) a b = absurd (apart words (Make i l) (Explain k f) (λ x. omega (arith, x)) a b)
 one_command words (Make i l) Upgrade a b = absurd (apart words (Make i l) Upgrade (λ x. omega (arith, x)) a b)
+one_command words (Make i l) Ground a b = absurd (apart words (Make i l) Ground (λ x. omega (arith, x)) a b)
 one_command words (Make i l) (MaxSat n) a b = absurd (apart words (Make i l) (MaxSat n) (λ x. omega (arith, x)) a b)
 one_command words (Make i l) (CheckMaxSat n) a b = absurd (apart words (Make i l) (CheckMaxSat n) (λ x. omega (arith, x)) a b)
 one_command words Upgrade (Check n) a b = absurd (apart words Upgrade (Check n) (λ x. omega (arith, x)) a b)
@@ -262,17 +270,27 @@ one_command words Upgrade (Explain k f) a b = absurd (apart words Upgrade (Expla
 one_command words Upgrade (Make j k) a b = absurd (apart words Upgrade (Make j k) (λ x. omega (arith, x)) a b)
 one_command words Upgrade (MaxSat n) a b = absurd (apart words Upgrade (MaxSat n) (λ x. omega (arith, x)) a b)
 one_command words Upgrade (CheckMaxSat n) a b = absurd (apart words Upgrade (CheckMaxSat n) (λ x. omega (arith, x)) a b)
+one_command words Upgrade Ground a b = absurd (apart words Upgrade Ground (λ x. omega (arith, x)) a b)
+one_command words Ground (Check n) a b = absurd (apart words Ground (Check n) (λ x. omega (arith, x)) a b)
+one_command words Ground (Solve k f) a b = absurd (apart words Ground (Solve k f) (λ x. omega (arith, x)) a b)
+one_command words Ground (Explain k f) a b = absurd (apart words Ground (Explain k f) (λ x. omega (arith, x)) a b)
+one_command words Ground (Make j k) a b = absurd (apart words Ground (Make j k) (λ x. omega (arith, x)) a b)
+one_command words Ground (MaxSat n) a b = absurd (apart words Ground (MaxSat n) (λ x. omega (arith, x)) a b)
+one_command words Ground (CheckMaxSat n) a b = absurd (apart words Ground (CheckMaxSat n) (λ x. omega (arith, x)) a b)
+one_command words Ground Upgrade a b = absurd (apart words Ground Upgrade (λ x. omega (arith, x)) a b)
 one_command words (MaxSat m) (Check n) a b = absurd (apart words (MaxSat m) (Check n) (λ x. omega (arith, x)) a b)
 one_command words (MaxSat m) (Solve k f) a b = absurd (apart words (MaxSat m) (Solve k f) (λ x. omega (arith, x)) a b)
 one_command words (MaxSat m) (Explain k f) a b = absurd (apart words (MaxSat m) (Explain k f) (λ x. omega (arith, x)) a b)
 one_command words (MaxSat m) (Make j k) a b = absurd (apart words (MaxSat m) (Make j k) (λ x. omega (arith, x)) a b)
 one_command words (MaxSat m) Upgrade a b = absurd (apart words (MaxSat m) Upgrade (λ x. omega (arith, x)) a b)
+one_command words (MaxSat m) Ground a b = absurd (apart words (MaxSat m) Ground (λ x. omega (arith, x)) a b)
 one_command words (MaxSat m) (CheckMaxSat n) a b = absurd (apart words (MaxSat m) (CheckMaxSat n) (λ x. omega (arith, x)) a b)
 one_command words (CheckMaxSat m) (Check n) a b = absurd (apart words (CheckMaxSat m) (Check n) (λ x. omega (arith, x)) a b)
 one_command words (CheckMaxSat m) (Solve k f) a b = absurd (apart words (CheckMaxSat m) (Solve k f) (λ x. omega (arith, x)) a b)
 one_command words (CheckMaxSat m) (Explain k f) a b = absurd (apart words (CheckMaxSat m) (Explain k f) (λ x. omega (arith, x)) a b)
 one_command words (CheckMaxSat m) (Make j k) a b = absurd (apart words (CheckMaxSat m) (Make j k) (λ x. omega (arith, x)) a b)
 one_command words (CheckMaxSat m) Upgrade a b = absurd (apart words (CheckMaxSat m) Upgrade (λ x. omega (arith, x)) a b)
+one_command words (CheckMaxSat m) Ground a b = absurd (apart words (CheckMaxSat m) Ground (λ x. omega (arith, x)) a b)
 one_command words (CheckMaxSat m) (MaxSat n) a b = absurd (apart words (CheckMaxSat m) (MaxSat n) (λ x. omega (arith, x)) a b)
 
 -- the limits that words spell are within theirs
@@ -294,6 +312,7 @@ spelled_limits words (Check n) h = tt
 spelled_limits words (Solve l e) h = runs_limits (codes "solve") words l e h
 spelled_limits words (Explain l e) h = runs_limits (codes "explain") words l e h
 spelled_limits words Upgrade h = tt
+spelled_limits words Ground h = tt
 spelled_limits words (MaxSat n) h = set-small h.spelled.settings h.spelled.are.within Conflicts (Number n) h.value_is
 spelled_limits words (CheckMaxSat n) h = tt
 spelled_limits words (Make n l) h = record { some = h.some; few = h.few; limits_are = set_limits (codes "make" ∷ decimal n ∷ []) words l h.set }
@@ -344,6 +363,7 @@ solve_unspelled words not = name_none (codes "solve") words by
     by (Explain l e) is h = other (codes "solve") (codes "explain") (λ x. omega (arith, x)) is
     by (Make n l) is h = other (codes "solve") (codes "make") (λ x. omega (arith, x)) is
     by Upgrade is h = other (codes "solve") (codes "upgrade") (λ x. omega (arith, x)) is
+    by Ground is h = other (codes "solve") (codes "ground") (λ x. omega (arith, x)) is
     by (MaxSat n) is h = other (codes "solve") (codes "maxsat") (λ x. omega (arith, x)) is
     by (CheckMaxSat n) is h = other (codes "solve") (codes "check-maxsat") (λ x. omega (arith, x)) is
 
@@ -357,6 +377,7 @@ explain_unspelled words not = name_none (codes "explain") words by
     by (Solve l e) is h = other (codes "explain") (codes "solve") (λ x. omega (arith, x)) is
     by (Make n l) is h = other (codes "explain") (codes "make") (λ x. omega (arith, x)) is
     by Upgrade is h = other (codes "explain") (codes "upgrade") (λ x. omega (arith, x)) is
+    by Ground is h = other (codes "explain") (codes "ground") (λ x. omega (arith, x)) is
     by (MaxSat n) is h = other (codes "explain") (codes "maxsat") (λ x. omega (arith, x)) is
     by (CheckMaxSat n) is h = other (codes "explain") (codes "check-maxsat") (λ x. omega (arith, x)) is
 
@@ -370,12 +391,31 @@ upgrade_unspelled words some = name_none (codes "upgrade") words by
   where
     by : (c : Command) → codes "upgrade" ≡ name_of c → ¬ Spell (codes "upgrade" ∷ words) c
     by Upgrade is h = let none = ap length (tail (codes "upgrade") (codes "upgrade") words [] h) in omega (arith, some, none)
+    by Ground is h = other (codes "upgrade") (codes "ground") (λ x. omega (arith, x)) is
     by (Check n) is h = other (codes "upgrade") (codes "check") (λ x. omega (arith, x)) is
     by (Solve l e) is h = other (codes "upgrade") (codes "solve") (λ x. omega (arith, x)) is
     by (Explain l e) is h = other (codes "upgrade") (codes "explain") (λ x. omega (arith, x)) is
     by (Make n l) is h = other (codes "upgrade") (codes "make") (λ x. omega (arith, x)) is
     by (MaxSat n) is h = other (codes "upgrade") (codes "maxsat") (λ x. omega (arith, x)) is
     by (CheckMaxSat n) is h = other (codes "upgrade") (codes "check-maxsat") (λ x. omega (arith, x)) is
+
+-- `ground` has no words behind it
+pub ground_spelled : (words : List (List ℕ)) → words ≡ [] → Spell (codes "ground" ∷ words) Ground
+ground_spelled words e = ap (λ (ws : List (List ℕ)). codes "ground" ∷ ws) e
+
+pub ground_unspelled : (words : List (List ℕ)) → 1 ≤ length words → SpellNone (codes "ground" ∷ words)
+unfolding mark_of
+ground_unspelled words some = name_none (codes "ground") words by
+  where
+    by : (c : Command) → codes "ground" ≡ name_of c → ¬ Spell (codes "ground" ∷ words) c
+    by Ground is h = let none = ap length (tail (codes "ground") (codes "ground") words [] h) in omega (arith, some, none)
+    by Upgrade is h = other (codes "ground") (codes "upgrade") (λ x. omega (arith, x)) is
+    by (Check n) is h = other (codes "ground") (codes "check") (λ x. omega (arith, x)) is
+    by (Solve l e) is h = other (codes "ground") (codes "solve") (λ x. omega (arith, x)) is
+    by (Explain l e) is h = other (codes "ground") (codes "explain") (λ x. omega (arith, x)) is
+    by (Make n l) is h = other (codes "ground") (codes "make") (λ x. omega (arith, x)) is
+    by (MaxSat n) is h = other (codes "ground") (codes "maxsat") (λ x. omega (arith, x)) is
+    by (CheckMaxSat n) is h = other (codes "ground") (codes "check-maxsat") (λ x. omega (arith, x)) is
 
 -- ---- the words of strings
 pub words-empty : (xs : List (String Global)) → length xs ≡ 0 → words_of xs ≡ []
@@ -419,6 +459,7 @@ check_unspelled words not = name_none (codes "check") words by
     by (Explain l e) is h = other (codes "check") (codes "explain") (λ x. omega (arith, x)) is
     by (Make n l) is h = other (codes "check") (codes "make") (λ x. omega (arith, x)) is
     by Upgrade is h = other (codes "check") (codes "upgrade") (λ x. omega (arith, x)) is
+    by Ground is h = other (codes "check") (codes "ground") (λ x. omega (arith, x)) is
     by (MaxSat n) is h = other (codes "check") (codes "maxsat") (λ x. omega (arith, x)) is
     by (CheckMaxSat n) is h = other (codes "check") (codes "check-maxsat") (λ x. omega (arith, x)) is
 
@@ -436,6 +477,7 @@ maxsat_unspelled words not = name_none (codes "maxsat") words by
     by (Explain l e) is h = other (codes "maxsat") (codes "explain") (λ x. omega (arith, x)) is
     by (Make n l) is h = other (codes "maxsat") (codes "make") (λ x. omega (arith, x)) is
     by Upgrade is h = other (codes "maxsat") (codes "upgrade") (λ x. omega (arith, x)) is
+    by Ground is h = other (codes "maxsat") (codes "ground") (λ x. omega (arith, x)) is
     by (CheckMaxSat n) is h = other (codes "maxsat") (codes "check-maxsat") (λ x. omega (arith, x)) is
 
 pub check_maxsat_spelled : (words : List (List ℕ)) (n : ℕ) → SetOne [] Bytes n words → Spell (codes "check-maxsat" ∷ words) (CheckMaxSat n)
@@ -452,6 +494,7 @@ check_maxsat_unspelled words not = name_none (codes "check-maxsat") words by
     by (Explain l e) is h = other (codes "check-maxsat") (codes "explain") (λ x. omega (arith, x)) is
     by (Make n l) is h = other (codes "check-maxsat") (codes "make") (λ x. omega (arith, x)) is
     by Upgrade is h = other (codes "check-maxsat") (codes "upgrade") (λ x. omega (arith, x)) is
+    by Ground is h = other (codes "check-maxsat") (codes "ground") (λ x. omega (arith, x)) is
     by (MaxSat n) is h = other (codes "check-maxsat") (codes "maxsat") (λ x. omega (arith, x)) is
 
 -- the command's name, and the words behind it

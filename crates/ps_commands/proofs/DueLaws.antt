@@ -4,7 +4,13 @@ use Rattle.std.specs.declared.alloc.Global.{Global}
 use Rattle.std.proofs.lemmas.Option.{same_Some}
 use Rattle.ps_problem.specs.Problems.{Parts}
 use Rattle.ps_problem.specs.Written.{items_from}
+use Rattle.ps_text.specs.Canonical.{canonical_text}
 use Rattle.ps_canonical.specs.Lines.{upgraded_text}
+use Rattle.ps_domains.specs.declared.kind.GroundKind.{GroundKind}
+use Rattle.ps_grounder.specs.declared.ground_error.GroundError.{GroundError}
+use Rattle.ps_grounder.specs.declared.ground_error.GroundError.TheVariants as ungroundable
+use Rattle.ps_grounder.specs.Readings as grounder
+use Rattle.ps_grounder.specs.Reads as grounds
 use Rattle.ps_answer.specs.declared.answer.Answer.{Answer}
 use Rattle.ps_read.specs.declared.read_error.ReadError.{ReadError}
 use Rattle.ps_read.specs.declared.read_error.ReadError.TheVariants as unread
@@ -36,8 +42,8 @@ use Rattle.ps_commands.specs.Statuses.{EndsCheck, EndsMake, EndsSolve, EndsUpgra
 use Rattle.ps_commands.specs.RunLimits.{limits_for}
 use Rattle.ps_messages.specs.Lines as lines
 use Rattle.ps_commands.specs.Due as due
-use Rattle.ps_commands.specs.Due.{DueAnswer, DueAnswered, NoProblem, Solved, IsSolvedBy, DueExplained, Explains, NoneExplained, explanation_of, status_explained, DueMade, DueUpgraded, NoneUpgraded, Within, TooLong, DueFor, Due, ForCommand, ForNone, report_of, status_after}
-use Rattle.ps_messages.specs.Lines.{Output, too_long, usage, unreadable}
+use Rattle.ps_commands.specs.Due.{DueAnswer, DueAnswered, NoProblem, Solved, IsSolvedBy, DueExplained, Explains, NoneExplained, explanation_of, status_explained, DueMade, DueUpgraded, NoneUpgraded, DueGrounded, Grounded, NoneGrounded, Within, TooLong, DueFor, Due, ForCommand, ForNone, report_of, status_after}
+use Rattle.ps_messages.specs.Lines.{Output, too_long, ungrounded, usage, unreadable}
 use Rattle.ps_commands.proofs.CommandLaws.{one_command}
 use Rattle.ps_commands.specs.Runs.{CountsReads, IsTold, WasRead, Took, HasAnswered, HasTaken, HasRead, Wrote}
 use Rattle.ps_commands.specs.Replies.{AreWithin, DueBytes, IsDueFor, IsDue}
@@ -68,6 +74,7 @@ told-is (commands.Solve l f) limit left bytes e h = h
 told-is (commands.Explain l f) limit left bytes e h = h
 told-is (commands.Make n l) limit left bytes e h = absurd (cc)
 told-is commands.Upgrade limit left bytes e h = h
+told-is commands.Ground limit left bytes e h = h
 told-is (commands.MaxSat n) limit left bytes e h = h
 told-is (commands.CheckMaxSat n) limit left bytes e h = h
 
@@ -77,6 +84,7 @@ within_due (commands.Solve l f) limit bytes o e few d = let same : MOST_PROBLEM 
 within_due (commands.Explain l f) limit bytes o e few d = let same : MOST_PROBLEM ≡ limit = same_Some MOST_PROBLEM limit e in Within (subst (λ (m : ℕ). length bytes ≤ m) (sym same) few) d
 within_due (commands.Make n l) limit bytes o e few d = d
 within_due commands.Upgrade limit bytes o e few d = let same : MOST_PROBLEM ≡ limit = same_Some MOST_PROBLEM limit e in Within (subst (λ (m : ℕ). length bytes ≤ m) (sym same) few) d
+within_due commands.Ground limit bytes o e few d = let same : MOST_PROBLEM ≡ limit = same_Some MOST_PROBLEM limit e in Within (subst (λ (m : ℕ). length bytes ≤ m) (sym same) few) d
 within_due (commands.MaxSat n) limit bytes o e few d = let same : MOST_PROBLEM ≡ limit = same_Some MOST_PROBLEM limit e in Within (subst (λ (m : ℕ). length bytes ≤ m) (sym same) few) d
 within_due (commands.CheckMaxSat n) limit bytes o e few d = let same : n ≡ limit = same_Some n limit e in Within (subst (λ (m : ℕ). length bytes ≤ m) (sym same) few) d
 
@@ -93,6 +101,9 @@ more_due (commands.Make n l) limit bytes o e more is = absurd (cc)
 more_due commands.Upgrade limit bytes o e more is =
     let same : MOST_PROBLEM ≡ limit = same_Some MOST_PROBLEM limit e in
     TooLong (subst (λ (m : ℕ). m < length bytes) (sym same) more) (subst (λ (m : ℕ). o ≡ too_long m) (sym same) is)
+more_due commands.Ground limit bytes o e more is =
+    let same : MOST_PROBLEM ≡ limit = same_Some MOST_PROBLEM limit e in
+    TooLong (subst (λ (m : ℕ). m < length bytes) (sym same) more) (subst (λ (m : ℕ). o ≡ too_long m) (sym same) is)
 more_due (commands.MaxSat n) limit bytes o e more is =
     let same : MOST_PROBLEM ≡ limit = same_Some MOST_PROBLEM limit e in
     TooLong (subst (λ (m : ℕ). m < length bytes) (sym same) more) (subst (λ (m : ℕ). o ≡ too_long m) (sym same) is)
@@ -105,6 +116,7 @@ within_limit (commands.Solve l f) limit n e le = let same : MOST_PROBLEM ≡ lim
 within_limit (commands.Explain l f) limit n e le = let same : MOST_PROBLEM ≡ limit = same_Some MOST_PROBLEM limit e in omega (arith, le, same)
 within_limit (commands.Make k l) limit n e le = tt
 within_limit commands.Upgrade limit n e le = let same : MOST_PROBLEM ≡ limit = same_Some MOST_PROBLEM limit e in omega (arith, le, same)
+within_limit commands.Ground limit n e le = let same : MOST_PROBLEM ≡ limit = same_Some MOST_PROBLEM limit e in omega (arith, le, same)
 within_limit (commands.MaxSat m) limit n e le = let same : MOST_PROBLEM ≡ limit = same_Some MOST_PROBLEM limit e in omega (arith, le, same)
 within_limit (commands.CheckMaxSat m) limit n e le = let same : m ≡ limit = same_Some m limit e in omega (arith, le, same)
 
@@ -192,6 +204,7 @@ answer_goes (commands.Solve l e) s g = solve_goes s g
 answer_goes (commands.Explain l e) s g = solve_goes s g
 answer_goes (commands.Make n l) s g = make_goes s g
 answer_goes commands.Upgrade s g = upgrade_goes s g
+answer_goes commands.Ground s g = upgrade_goes s g
 answer_goes (commands.MaxSat n) s g = maxsat_goes s g
 answer_goes (commands.CheckMaxSat n) s g = check_maxsat_goes s g
 
@@ -228,6 +241,7 @@ read_cut words s old new g h = record { read = λ command spelled. by command (h
     by (commands.Explain limits enough) taken = was_read MOST_PROBLEM s old new g taken
     by (commands.Make n limits) taken = tt
     by commands.Upgrade taken = was_read MOST_PROBLEM s old new g taken
+    by commands.Ground taken = was_read MOST_PROBLEM s old new g taken
     by (commands.MaxSat n) taken = was_read MOST_PROBLEM s old new g taken
     by (commands.CheckMaxSat limit) taken = was_read limit s old new g taken
 
@@ -287,6 +301,15 @@ explained_due limits run enough bytes p e same spells right =
 pub unexplained_due : (limits : Limits) (enough : Bool) (bytes : List ℕ) (e : ReadError) (kind : ReadKind) (l k : ℕ) (o : Output) → e ≡ unread.At kind l k → Tells (IsUnreadWhole bytes) e
     → o ≡ unreadable kind (record { line = l; column = k }) → DueExplained limits enough bytes o
 unexplained_due limits enough bytes e kind l k o is told shown = let at = rw is at told in NoneExplained kind (record { line = l; column = k }) at shown
+
+-- ---- due for the bytes of a text over listed constants
+pub grounded_due : (bytes : List ℕ) (p : Parts) (text : List ℕ) → grounder.SpellsWhole bytes p → text ≡ canonical_text (items_from p)
+    → DueGrounded bytes (record { text = text; status = status.Done })
+grounded_due bytes p text spells is = Grounded p spells (ap (λ (bs : List ℕ). record { text = bs; status = status.Done }) is)
+
+pub none_grounded_due : (bytes : List ℕ) (e : GroundError) (kind : GroundKind) (l k : ℕ) (o : Output) → e ≡ ungroundable.At kind l k
+    → grounds.Tells (grounder.IsUnreadWhole bytes) e → o ≡ ungrounded kind (record { line = l; column = k }) → DueGrounded bytes o
+none_grounded_due bytes e kind l k o is told shown = let at = rw is at told in NoneGrounded kind (record { line = l; column = k }) at shown
 
 -- ---- due for the bytes of a problem that is to be upgraded
 pub upgraded_due : (bytes : List ℕ) (p : Parts) (text : List ℕ) → SpellsWhole bytes p → text ≡ upgraded_text (items_from p) → DueUpgraded bytes (record { text = text; status = status.Done })

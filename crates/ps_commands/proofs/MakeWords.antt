@@ -4,7 +4,7 @@ use Rattle.std.specs.Fmt.{decimal}
 use Rattle.ps_runs.specs.declared.limits.Limits.{Limits}
 use Rattle.ps_make.specs.declared.made.TheConstants.{MOST_LINKS}
 use Rattle.ps_commands.specs.declared.command.Command.{Command}
-use Rattle.ps_commands.specs.declared.command.Command.TheVariants.{Check, CheckMaxSat, Explain, Make, MaxSat, Solve, Upgrade}
+use Rattle.ps_commands.specs.declared.command.Command.TheVariants.{Check, CheckMaxSat, Explain, Ground, Make, MaxSat, Solve, Upgrade}
 use Rattle.ps_commands.specs.declared.command.LimitValue.{LimitValue}
 use Rattle.ps_commands.specs.declared.command.LimitValue.TheVariants.{Number, Enough}
 use Rattle.ps_commands.specs.declared.command.RunSettings.{RunSettings}
@@ -23,6 +23,7 @@ make_none words not = name_none (codes "make") words by
     by (Solve l e) is h = other (codes "make") (codes "solve") (λ x. omega (arith, x)) is
     by (Explain l e) is h = other (codes "make") (codes "explain") (λ x. omega (arith, x)) is
     by Upgrade is h = other (codes "make") (codes "upgrade") (λ x. omega (arith, x)) is
+    by Ground is h = other (codes "make") (codes "ground") (λ x. omega (arith, x)) is
     by (MaxSat n) is h = other (codes "make") (codes "maxsat") (λ x. omega (arith, x)) is
     by (CheckMaxSat n) is h = other (codes "make") (codes "check-maxsat") (λ x. omega (arith, x)) is
 

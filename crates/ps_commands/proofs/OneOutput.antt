@@ -4,7 +4,9 @@ use Rattle.ps_read.specs.Readings.{SpellsWhole, Read, Unread}
 use Rattle.ps_read.proofs.OneReading.{one_reading, one_whole_reading}
 use Rattle.ps_problem.specs.Problems.{Parts}
 use Rattle.ps_problem.specs.Written.{items_from}
+use Rattle.ps_text.specs.Canonical.{canonical_text}
 use Rattle.ps_canonical.specs.Lines.{upgraded_text}
+use Rattle.ps_grounder.proofs.OneGround.{one_ground_problem, one_ground_refusal, ground_excludes}
 use Rattle.ps_answer.specs.declared.answer.Answer.{Answer}
 use Rattle.ps_answer.proofs.Single.{no_fault, one_fault, one_answer, report_is_text}
 use Rattle.ps_claims.proofs.Claims.{valid_accepted}
@@ -18,8 +20,8 @@ use Rattle.ps_messages.specs.declared.status.Status.TheVariants.{Done}
 use Rattle.ps_commands.specs.Commands.{Spell}
 use Rattle.ps_max_commands.specs.Due.{DueMaxSat, DueCheckMaxSat}
 use Rattle.ps_max_commands.proofs.OneDue.{one_unread_due, one_check_due}
-use Rattle.ps_commands.specs.Due.{DueAnswer, Accepted, RefusedFor, DueReport, ReadAs, FaultAt, DueText, Spelled, NotRead, searched, DueAnswered, Solved, NoProblem, DueExplained, Explains, NoneExplained, DueUpgraded, Upgraded, NoneUpgraded, DueWithin, Within, TooLong, DueFor, Due, ForCommand, ForNone, IsSingle}
-use Rattle.ps_messages.specs.Lines.{Output, refused, refused_line, unreadable}
+use Rattle.ps_commands.specs.Due.{DueAnswer, Accepted, RefusedFor, DueReport, ReadAs, FaultAt, DueText, Spelled, NotRead, searched, DueAnswered, Solved, NoProblem, DueExplained, Explains, NoneExplained, DueUpgraded, Upgraded, NoneUpgraded, DueGrounded, Grounded, NoneGrounded, DueWithin, Within, TooLong, DueFor, Due, ForCommand, ForNone, IsSingle}
+use Rattle.ps_messages.specs.Lines.{Output, refused, refused_line, ungrounded, unreadable}
 use Rattle.ps_commands.proofs.CommandLaws.{one_command}
 
 one_judged : (p : Parts) (a : Answer) (o o' : Output) → DueAnswer p a o → DueAnswer p a o' → o ≡ o'
@@ -93,6 +95,15 @@ one_upgraded bytes o o' (NoneUpgraded kind at u is) (NoneUpgraded other there v 
     let l : at ≡ there = cc in
     is ∙ ap (λ x. unreadable x at) k ∙ ap (λ x. unreadable other x) l ∙ sym is'
 
+one_grounded : (bytes : List ℕ) (o o' : Output) → DueGrounded bytes o → DueGrounded bytes o' → o ≡ o'
+one_grounded bytes o o' (Grounded p a is) (Grounded q b is') =
+    is ∙ ap (λ (x : Parts). record { text = canonical_text (items_from x); status = Done }) (one_ground_problem bytes p q a b) ∙ sym is'
+one_grounded bytes o o' (Grounded p a is) (NoneGrounded kind at u is') = absurd (ground_excludes bytes p kind at a u)
+one_grounded bytes o o' (NoneGrounded kind at u is) (Grounded p a is') = absurd (ground_excludes bytes p kind at a u)
+one_grounded bytes o o' (NoneGrounded kind at u is) (NoneGrounded other there v is') =
+    let same = one_ground_refusal bytes kind other at there u v in
+    is ∙ ap (λ x. ungrounded x at) same.0 ∙ ap (λ x. ungrounded other x) same.1 ∙ sym is'
+
 pub one_for_command : (c : Command) (bytes : List ℕ) (o o' : Output) → IsSingle c bytes → DueFor c bytes o → DueFor c bytes o' → o ≡ o'
 one_for_command (commands.Check limit) bytes o o' single d e = one_within limit DueText bytes o o' (λ few. one_text bytes o o') d e
 one_for_command (commands.Solve limits enough) bytes o o' single d e = one_within MOST_PROBLEM (DueAnswered limits enough) bytes o o' (λ few. one_unread limits enough bytes o o' (λ p. single p few)) d e
@@ -100,6 +111,7 @@ one_for_command (commands.Explain limits enough) bytes o o' single d e =
     one_within MOST_PROBLEM (DueExplained limits enough) bytes o o' (λ few. one_unexplained limits enough bytes o o' (λ p. single p few)) d e
 one_for_command (commands.Make n limits) bytes o o' single d e = absurd single
 one_for_command commands.Upgrade bytes o o' single d e = one_within MOST_PROBLEM DueUpgraded bytes o o' (λ few. one_upgraded bytes o o') d e
+one_for_command commands.Ground bytes o o' single d e = one_within MOST_PROBLEM DueGrounded bytes o o' (λ few. one_grounded bytes o o') d e
 one_for_command (commands.MaxSat n) bytes o o' single d e = one_within MOST_PROBLEM (DueMaxSat n) bytes o o' (λ few. one_unread_due n bytes o o' (λ t. single t few)) d e
 one_for_command (commands.CheckMaxSat limit) bytes o o' single d e = one_within limit DueCheckMaxSat bytes o o' (λ few. one_check_due bytes o o') d e
 

@@ -5,7 +5,9 @@ use Rattle.ps_io.specs.Transfer.{Appends}
 use Rattle.ps_read.specs.Readings.{SpellsProblem, SpellsWhole}
 use Rattle.ps_problem.specs.Problems.{Parts}
 use Rattle.ps_problem.specs.Written.{items_from}
+use Rattle.ps_text.specs.Canonical.{canonical_text}
 use Rattle.ps_canonical.specs.Lines.{upgraded_text}
+use Rattle.ps_grounder.specs.Readings as grounder
 use Rattle.ps_answer.specs.declared.answer.Answer.{Answer}
 use Rattle.ps_explain.specs.declared.explained.Explained.{Explained}
 use Rattle.ps_runs.specs.declared.limits.Limits.{Limits}
@@ -13,7 +15,7 @@ use Rattle.ps_max_commands.specs.Due.{DueCheckMaxSat, IsAnswered}
 use Rattle.ps_wcnf.specs.Readings.{IsRead}
 use Rattle.ps_wcnf.specs.Splitting.{lines_of}
 use Rattle.ps_wcnf.specs.declared.text.WcnfText.{WcnfText}
-use Rattle.ps_commands.specs.declared.command.Command.TheVariants.{Check, CheckMaxSat, Explain, Make, MaxSat, Solve, Upgrade}
+use Rattle.ps_commands.specs.declared.command.Command.TheVariants.{Check, CheckMaxSat, Explain, Ground, Make, MaxSat, Solve, Upgrade}
 use Rattle.ps_commands.specs.declared.command.TheConstants.{MOST_PROBLEM}
 use Rattle.ps_messages.specs.declared.status.Status.{Status}
 use Rattle.ps_messages.specs.declared.status.Status.TheVariants.{Done, NoMemory}
@@ -106,6 +108,15 @@ ProblemsAreUpgraded = (words : List (String Global)) (old new : Ends) (status : 
     → old.source.bytes ≡ Some bytes
     → length bytes ≤ MOST_PROBLEM → SpellsWhole bytes p
     → HasWritten (λ o. o ≡ record { text = upgraded_text (items_from p); status = Done }) status old new
+    ⊎ IsOutOfMemory status old new
+
+-- for `ground` it is the canonical text of the ground problem of the text over listed constants that the bytes spell
+abbrev pub TextsAreGrounded : Type 0
+TextsAreGrounded = (words : List (String Global)) (old new : Ends) (status : Status)
+    (bytes : List ℕ) (p : Parts) → Spell (words_of words) Ground → IsFaultless words old new status
+    → old.source.bytes ≡ Some bytes
+    → length bytes ≤ MOST_PROBLEM → grounder.SpellsWhole bytes p
+    → HasWritten (λ o. o ≡ record { text = canonical_text (items_from p); status = Done }) status old new
     ⊎ IsOutOfMemory status old new
 
 -- and for `check`, where a problem stands at the front of bytes within the limit, it is what is due for the problem and the bytes

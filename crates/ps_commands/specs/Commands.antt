@@ -7,7 +7,7 @@ use Rattle.ps_log.specs.declared.limits.TheConstants.{MOST_CONFLICTS}
 use Rattle.ps_runs.specs.declared.limits.Limits.{Limits}
 use Rattle.ps_make.specs.declared.made.TheConstants.{MOST_LINKS}
 use Rattle.ps_commands.specs.declared.command.Command.{Command}
-use Rattle.ps_commands.specs.declared.command.Command.TheVariants.{Check, CheckMaxSat, Explain, Make, MaxSat, Solve, Upgrade}
+use Rattle.ps_commands.specs.declared.command.Command.TheVariants.{Check, CheckMaxSat, Explain, Ground, Make, MaxSat, Solve, Upgrade}
 use Rattle.ps_commands.specs.declared.command.Limit.{Limit}
 use Rattle.ps_commands.specs.declared.command.Limit.TheVariants.{Bytes, Pivots, Conflicts}
 use Rattle.ps_commands.specs.declared.command.LimitValue.{LimitValue}
@@ -110,6 +110,7 @@ Spell words (Solve limits enough) = SpellRuns (codes "solve") limits enough word
 Spell words (Explain limits enough) = SpellRuns (codes "explain") limits enough words
 Spell words (Make n limits) = SpellMake n limits words
 Spell words Upgrade = words ≡ codes "upgrade" ∷ []
+Spell words Ground = words ≡ codes "ground" ∷ []
 Spell words (MaxSat conflicts) = SetOne (codes "maxsat" ∷ []) Conflicts conflicts words
 Spell words (CheckMaxSat bytes) = SetOne (codes "check-maxsat" ∷ []) Bytes bytes words
 
@@ -124,6 +125,7 @@ limit_of (Solve limits enough) = Some MOST_PROBLEM
 limit_of (Explain limits enough) = Some MOST_PROBLEM
 limit_of (Make n limits) = None
 limit_of Upgrade = Some MOST_PROBLEM
+limit_of Ground = Some MOST_PROBLEM
 limit_of (MaxSat conflicts) = Some MOST_PROBLEM
 limit_of (CheckMaxSat bytes) = Some bytes
 

@@ -7,7 +7,10 @@ use Rattle.ps_read.specs.Readings.{SpellsProblem, SpellsWhole, IsUnread, IsUnrea
 use Rattle.ps_problem.specs.Problems.{Parts}
 use Rattle.ps_problem.specs.Soundness.{IsProblem}
 use Rattle.ps_problem.specs.Written.{items_from}
+use Rattle.ps_text.specs.Canonical.{canonical_text}
 use Rattle.ps_canonical.specs.Lines.{upgraded_text}
+use Rattle.ps_domains.specs.declared.kind.GroundKind.{GroundKind}
+use Rattle.ps_grounder.specs.Readings as grounder
 use Rattle.ps_answer.specs.declared.answer.Answer.{Answer}
 use Rattle.ps_answer.specs.declared.answer.Verdict.{Verdict}
 use Rattle.ps_answer.specs.declared.answer.Verdict.TheVariants as answer
@@ -35,9 +38,9 @@ use Rattle.ps_wcnf.specs.declared.text.WcnfText.{WcnfText}
 use Rattle.ps_max_commands.specs.Due.{DueMaxSat, DueCheckMaxSat}
 use Rattle.ps_messages.specs.declared.status.Status.{Status}
 use Rattle.ps_messages.specs.declared.status.Status.TheVariants.{Done, Inconsistent, Unfinished}
-use Rattle.ps_messages.specs.Lines.{Output, accepted, refused, refused_line, too_long, unreadable, usage}
+use Rattle.ps_messages.specs.Lines.{Output, accepted, refused, refused_line, too_long, ungrounded, unreadable, usage}
 use Rattle.ps_commands.specs.declared.command.Command.{Command}
-use Rattle.ps_commands.specs.declared.command.Command.TheVariants.{Check, CheckMaxSat, Explain, Make, MaxSat, Solve, Upgrade}
+use Rattle.ps_commands.specs.declared.command.Command.TheVariants.{Check, CheckMaxSat, Explain, Ground, Make, MaxSat, Solve, Upgrade}
 use Rattle.ps_commands.specs.declared.checked.TheConstants.{MOST_SEARCHED}
 use Rattle.ps_commands.specs.declared.command.TheConstants.{MOST_PROBLEM}
 use Rattle.ps_commands.specs.Commands.{Spell, SpellNone}
@@ -163,6 +166,14 @@ pub data DueUpgraded (bytes : List ℕ) (o : Output) : Type 0 where
   NoneUpgraded : (kind : ReadKind) (at : Position) (unread : IsUnreadWhole bytes kind at)
       (is : o ≡ unreadable kind at) → DueUpgraded bytes o
 
+-- due for the bytes of a text over listed constants: the canonical text of its ground problem, or they are no such text within
+-- the limits, for a kind of refusal at a position
+pub data DueGrounded (bytes : List ℕ) (o : Output) : Type 0 where
+  Grounded : (p : Parts) (spells : grounder.SpellsWhole bytes p)
+      (is : o ≡ record { text = canonical_text (items_from p); status = Done }) → DueGrounded bytes o
+  NoneGrounded : (kind : GroundKind) (at : Position) (unread : grounder.IsUnreadWhole bytes kind at)
+      (is : o ≡ ungrounded kind at) → DueGrounded bytes o
+
 -- due for what the source had left, of which so many bytes are read at most, by what is due for bytes within the limit
 pub data DueWithin (limit : ℕ) (DueOf : List ℕ → Output → Type 0) (bytes : List ℕ) (o : Output) : Type 0 where
   Within : (within : length bytes ≤ limit) (due : DueOf bytes o) → DueWithin limit DueOf bytes o
@@ -175,6 +186,7 @@ DueFor (Solve limits enough) bytes o = DueWithin MOST_PROBLEM (DueAnswered limit
 DueFor (Explain limits enough) bytes o = DueWithin MOST_PROBLEM (DueExplained limits enough) bytes o
 DueFor (Make n limits) bytes o = DueMade n limits o
 DueFor Upgrade bytes o = DueWithin MOST_PROBLEM DueUpgraded bytes o
+DueFor Ground bytes o = DueWithin MOST_PROBLEM DueGrounded bytes o
 DueFor (MaxSat conflicts) bytes o = DueWithin MOST_PROBLEM (DueMaxSat conflicts) bytes o
 DueFor (CheckMaxSat limit) bytes o = DueWithin limit DueCheckMaxSat bytes o
 
@@ -191,7 +203,7 @@ AreNoProblem bytes = (p : Parts) → length bytes ≤ MOST_PROBLEM → ¬ Spells
 abbrev pub AreNoClauses : List ℕ → Type 0
 AreNoClauses bytes = (t : WcnfText) → length bytes ≤ MOST_PROBLEM → ¬ IsRead (lines_of bytes) t
 
--- where one output at most is due: for `check`, `upgrade` and `check-maxsat` always; for `solve`, `explain` and `maxsat` where
+-- where one output at most is due: for `check`, `upgrade`, `ground` and `check-maxsat` always; for `solve`, `explain` and `maxsat` where
 -- the bytes are no problem or no clauses, since to these there may be several right answers; for `make` it is never claimed
 abbrev pub IsSingle : Command → List ℕ → Type 0
 IsSingle (Check limit) bytes = Unit {0}
@@ -199,6 +211,7 @@ IsSingle (Solve limits enough) bytes = AreNoProblem bytes
 IsSingle (Explain limits enough) bytes = AreNoProblem bytes
 IsSingle (Make n limits) bytes = ⊥
 IsSingle Upgrade bytes = Unit {0}
+IsSingle Ground bytes = Unit {0}
 IsSingle (MaxSat conflicts) bytes = AreNoClauses bytes
 IsSingle (CheckMaxSat limit) bytes = Unit {0}
 

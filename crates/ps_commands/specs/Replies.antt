@@ -17,7 +17,7 @@ use Rattle.ps_check.specs.declared.checked.Checked.{Checked}
 use Rattle.ps_check.specs.Checks.{IsFoundIn}
 use Rattle.ps_commands.specs.declared.command.Command.{Command}
 use Rattle.ps_make.specs.declared.made.TheConstants.{MOST_LINKS}
-use Rattle.ps_commands.specs.declared.command.Command.TheVariants.{Check, CheckMaxSat, Explain, Make, MaxSat, Solve, Upgrade}
+use Rattle.ps_commands.specs.declared.command.Command.TheVariants.{Check, CheckMaxSat, Explain, Ground, Make, MaxSat, Solve, Upgrade}
 use Rattle.ps_commands.specs.declared.made.MadeProblem.{MadeProblem}
 use Rattle.ps_commands.specs.declared.reply.Reply.{Reply}
 use Rattle.ps_commands.specs.declared.reply.Reply.TheVariants.{Line, Report, Explanation, Made, Upgraded, Weighted}
@@ -26,7 +26,7 @@ use Rattle.ps_commands.specs.declared.reply_error.ReplyError.TheVariants as erro
 use Rattle.ps_messages.specs.declared.status.Status.{Status}
 use Rattle.ps_messages.specs.declared.status.Status.TheVariants as statuses
 use Rattle.ps_commands.specs.Commands.{limit_of}
-use Rattle.ps_commands.specs.Due.{Due, DueAnswered, DueExplained, DueFor, DueMade, DueText, DueUpgraded}
+use Rattle.ps_commands.specs.Due.{Due, DueAnswered, DueExplained, DueFor, DueGrounded, DueMade, DueText, DueUpgraded}
 use Rattle.ps_messages.specs.Lines.{Output}
 use Rattle.ps_commands.specs.Due.{behind_summary, comment_of, explanation_of, report_of}
 use Rattle.ps_commands.specs.Due.{status_after, status_explained, status_made}
@@ -119,6 +119,7 @@ AreLimitsOf (Solve limits enough) = AreLimits limits
 AreLimitsOf (Explain limits enough) = AreLimits limits
 AreLimitsOf (Make n limits) = AreLimitsOfMake n limits
 AreLimitsOf Upgrade = Unit {0}
+AreLimitsOf Ground = Unit {0}
 AreLimitsOf (MaxSat conflicts) = conflicts ≤ MOST_CONFLICTS
 AreLimitsOf (CheckMaxSat limit) = Unit {0}
 
@@ -133,6 +134,7 @@ DueBytes (Solve limits enough) bytes o = DueAnswered limits enough bytes o
 DueBytes (Explain limits enough) bytes o = DueExplained limits enough bytes o
 DueBytes (Make n limits) bytes o = DueMade n limits o
 DueBytes Upgrade bytes o = DueUpgraded bytes o
+DueBytes Ground bytes o = DueGrounded bytes o
 DueBytes (MaxSat conflicts) bytes o = DueMaxSat conflicts bytes o
 DueBytes (CheckMaxSat limit) bytes o = DueCheckMaxSat bytes o
 

@@ -2,7 +2,7 @@
 use Rattle.std.specs.Prelude.{◌⊎◌}
 use Rattle.ps_max_commands.specs.Ends.{EndsMaxSat, EndsCheckMaxSat}
 use Rattle.ps_commands.specs.declared.command.Command.{Command}
-use Rattle.ps_commands.specs.declared.command.Command.TheVariants.{Check, CheckMaxSat, Explain, Make, MaxSat, Solve, Upgrade}
+use Rattle.ps_commands.specs.declared.command.Command.TheVariants.{Check, CheckMaxSat, Explain, Ground, Make, MaxSat, Solve, Upgrade}
 use Rattle.ps_messages.specs.declared.status.Status.{Status}
 use Rattle.ps_messages.specs.declared.status.Status.TheVariants.{Done, Inconsistent, Usage, Unreadable, Unfinished}
 use Rattle.ps_messages.specs.declared.status.Status.TheVariants.{ReadFault, WriteFault, NoMemory, Refused}
@@ -28,7 +28,7 @@ EndsMake Done = Unit {0}
 EndsMake Unfinished = Unit {0}
 EndsMake other = ⊥
 
--- a status of `upgrade` that goes with a text
+-- a status of `upgrade`, and of `ground`, that goes with a text
 abbrev pub EndsUpgrade : Status → Type 0
 EndsUpgrade Done = Unit {0}
 EndsUpgrade Unreadable = Unit {0}
@@ -41,6 +41,7 @@ IsAnswerOf (Solve limits enough) status = EndsSolve status
 IsAnswerOf (Explain limits enough) status = EndsSolve status
 IsAnswerOf (Make n limits) status = EndsMake status
 IsAnswerOf Upgrade status = EndsUpgrade status
+IsAnswerOf Ground status = EndsUpgrade status
 IsAnswerOf (MaxSat conflicts) status = EndsMaxSat status
 IsAnswerOf (CheckMaxSat limit) status = EndsCheckMaxSat status
 

@@ -41,6 +41,8 @@ pub enum Command {
     Check { bytes: u64 },
     /// Writes the canonical text of a problem as one of version 2.
     Upgrade,
+    /// Writes the canonical text of the ground problem of a text over listed constants.
+    Ground,
     /// Looks for an optimum of weighted clauses; each search learns at most so many clauses.
     MaxSat { conflicts: u64 },
     /// Judges the answer behind weighted clauses, and reads at most so many bytes.
@@ -315,6 +317,16 @@ fn parse_upgrade(settings: &[String]) -> Option<Command>
     }
 }
 
+// `ground`, or None where words stand behind it: it has no settings.
+fn parse_ground(settings: &[String]) -> Option<Command>
+    ensures { FindsBehind (codes "ground") (words_of settings.now) result }
+{
+    match settings {
+        [] => Some(Command::Ground),
+        _ => None,
+    }
+}
+
 // How many links a word spells.
 fn parse_links(word: &String) -> Option<u32>
     ensures { FindsLinks (string_bytes word.now) result }
@@ -359,6 +371,7 @@ pub fn parse_words(words: &[String]) -> Option<Command>
         [name, settings @ ..] if is(name, "make") => parse_make(settings),
         [name, settings @ ..] if is(name, "check") => parse_check(settings),
         [name, settings @ ..] if is(name, "upgrade") => parse_upgrade(settings),
+        [name, settings @ ..] if is(name, "ground") => parse_ground(settings),
         [name, settings @ ..] if is(name, "maxsat") => parse_maxsat(settings),
         [name, settings @ ..] if is(name, "check-maxsat") => parse_check_maxsat(settings),
         _ => None,

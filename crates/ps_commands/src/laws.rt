@@ -12,6 +12,7 @@ ghost use Rattle.ps_commands.specs.AcceptedRuns.{MaxRunsAreAccepted, SolvedRunsA
 ghost use Rattle.ps_commands.specs.Answering.{ClausesAreAnswered, MaxAnswersAreJudged};
 ghost use Rattle.ps_commands.specs.Answering.{FaultlessRunsAnswer, ProblemsAreExplained, ProblemsAreMade};
 ghost use Rattle.ps_commands.specs.Answering.{ProblemsAreSolved, ProblemsAreUpgraded, ReportsAreJudged};
+ghost use Rattle.ps_commands.specs.Answering.{TextsAreGrounded};
 ghost use Rattle.ps_commands.specs.Commands.{Spell};
 ghost use Rattle.ps_commands.specs.Conflicts.{ManyConflictsLeaveNoExplanationOpen};
 ghost use Rattle.ps_commands.specs.Conflicts.{ManyConflictsLeaveNoneOpen, ManyConflictsLeaveNoneOpenOfMade};
@@ -70,7 +71,8 @@ pub fn many_conflicts_leave_none_open()
 /// Where no call of the source or the sink fails, a run answers what is due, or there was not
 /// enough memory: of its clauses no other status is left. For `solve` and bytes within the limit
 /// that are a problem, that is the report of an answer to it, and for `explain` an explanation of
-/// it, for `upgrade` its canonical text as one of version 2; for `check` and a problem at the front of
+/// it, for `upgrade` its canonical text as one of version 2; for `ground` and a text over listed
+/// constants the canonical text of its ground problem; for `check` and a problem at the front of
 /// such bytes, what is due for it and the bytes behind it; and for `make` the chain of so many links
 /// with the summary of an answer to its problem. For `maxsat` and weighted clauses within the limit it
 /// is the answer of a search for their optimum, and for `check-maxsat` what is due for the clauses and
@@ -81,6 +83,7 @@ pub fn faultless_runs_answer()
     ensures explained { ProblemsAreExplained }
     ensures judged { ReportsAreJudged }
     ensures upgraded { ProblemsAreUpgraded }
+    ensures made_ground { TextsAreGrounded }
     ensures made { ProblemsAreMade }
     ensures weighted { ClausesAreAnswered }
     ensures weighted_judged { MaxAnswersAreJudged }

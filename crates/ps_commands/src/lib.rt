@@ -9,6 +9,7 @@ mod checked;
 mod command;
 mod exit;
 mod explained;
+mod grounded;
 mod laws;
 mod made;
 mod reply;

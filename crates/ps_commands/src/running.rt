@@ -9,6 +9,7 @@ ghost use Rattle.ps_commands.specs.Statuses.{AnswersUsage, HasText, IsAnswerOf, 
 use crate::checked::reply_to_check;
 use crate::command::{Command, MOST_PROBLEM, parse_words};
 use crate::explained::reply_to_explain;
+use crate::grounded::reply_to_ground;
 use crate::made::reply_to_make;
 use crate::reply::Reply;
 use crate::reply_error::ReplyError;
@@ -36,6 +37,7 @@ fn reply_to_bytes(alloc: Global, command: Command, bytes: &[u8]) -> Result<Reply
         Command::Check { .. } => unreachable!(),
         Command::Make { links, limits } => reply_to_make(alloc, links, limits),
         Command::Upgrade => reply_to_upgrade(alloc, bytes),
+        Command::Ground => reply_to_ground(alloc, bytes),
         Command::MaxSat { conflicts } => {
             Ok(Reply::Weighted(reply_to_maxsat(alloc, bytes, conflicts)?))
         }
@@ -86,6 +88,7 @@ fn reply_to_command<I: Source>(
         Command::Solve { .. }
         | Command::Explain { .. }
         | Command::Upgrade
+        | Command::Ground
         | Command::MaxSat { .. } => reply_to_input(alloc, command, MOST_PROBLEM, source),
         Command::CheckMaxSat { bytes } => reply_to_input(alloc, command, bytes, source),
         Command::Check { bytes } => reply_to_check(alloc, bytes, source),

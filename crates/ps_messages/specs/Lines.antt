@@ -2,6 +2,7 @@
 use Rattle.std.specs.Prelude.{ℕ, List, ◌++◌, codes, decimal}
 use Rattle.ps_text.specs.Positions.{Position}
 use Rattle.ps_text.specs.declared.kind.ReadKind.{ReadKind}
+use Rattle.ps_domains.specs.declared.kind.GroundKind.{GroundKind}
 use Rattle.ps_answer.specs.declared.error.LineKind.{LineKind}
 use Rattle.ps_claims.specs.declared.claim.Claim.{Claim}
 use Rattle.ps_claims.specs.declared.reason.Reason.{Reason}
@@ -9,7 +10,7 @@ use Rattle.ps_max_answer.specs.declared.max_error.MaxError.{MaxError}
 use Rattle.ps_wcnf.specs.declared.wcnf_error.WcnfKind.{WcnfKind}
 use Rattle.ps_messages.specs.declared.status.Status.{Status}
 use Rattle.ps_messages.specs.declared.status.Status.TheVariants.{Done, Usage, Unreadable, Refused}
-use Rattle.ps_messages.specs.Words.{kind_words, line_words, claim_words, reason_words, wcnf_words, max_reason_words}
+use Rattle.ps_messages.specs.Words.{kind_words, line_words, claim_words, reason_words, wcnf_words, max_reason_words, ground_words}
 
 -- a text, and the status after it
 pub record Output : Type 0 where
@@ -37,6 +38,11 @@ abbrev pub unreadable : ReadKind → Position → Output
 unreadable kind at = line (codes "unreadable: "
     ++ (kind_words kind ++ (codes " at " ++ (decimal at.line ++ (codes ":" ++ decimal at.column))))) Unreadable
 
+-- no ground problem is made of a text over listed constants, for a kind of refusal at a line and a column
+abbrev pub ungrounded : GroundKind → Position → Output
+ungrounded kind at = line (codes "unreadable: "
+    ++ (ground_words kind ++ (codes " at " ++ (decimal at.line ++ (codes ":" ++ decimal at.column))))) Unreadable
+
 -- no problem is read, since there are more bytes than the limit
 abbrev pub too_long : ℕ → Output
 too_long limit = line (codes "unreadable: more than " ++ decimal limit ++ codes " bytes") Unreadable
@@ -44,7 +50,7 @@ too_long limit = line (codes "unreadable: more than " ++ decimal limit ++ codes 
 -- the commands, and the settings that words may make
 abbrev pub usage_words : List ℕ
 usage_words =
-    codes "usage: psat solve|explain|check|upgrade|maxsat|check-maxsat|make N [--pivots N|enough] [--conflicts N] [--bytes N]"
+    codes "usage: psat solve|explain|check|upgrade|maxsat|check-maxsat|ground|make N [--pivots N|enough] [--conflicts N] [--bytes N]"
 
 -- the usage line, for words that spell no command
 abbrev pub usage : Output

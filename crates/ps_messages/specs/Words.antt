@@ -4,6 +4,10 @@ use Rattle.ps_text.specs.declared.kind.What.{What}
 use Rattle.ps_text.specs.declared.kind.What.TheVariants as what
 use Rattle.ps_text.specs.declared.kind.ReadKind.{ReadKind}
 use Rattle.ps_text.specs.declared.kind.ReadKind.TheVariants as kind
+use Rattle.ps_domains.specs.declared.kind.DomainWhat.{DomainWhat}
+use Rattle.ps_domains.specs.declared.kind.DomainWhat.TheVariants as domain
+use Rattle.ps_domains.specs.declared.kind.GroundKind.{GroundKind}
+use Rattle.ps_domains.specs.declared.kind.GroundKind.TheVariants as grounds
 use Rattle.ps_answer.specs.declared.error.LineKind.{LineKind}
 use Rattle.ps_answer.specs.declared.error.LineKind.TheVariants as line
 use Rattle.ps_pb.specs.declared.refused.StepRefused.{StepRefused}
@@ -54,6 +58,28 @@ kind_words kind.TooManyBounds = codes "too many bounds"
 kind_words kind.TooManyQueries = codes "too many queries"
 kind_words kind.LinearTooLarge = codes "linear too large"
 kind_words kind.MoreAfterEnd = codes "more after end"
+
+-- what is expected at a place of a text over listed constants, beside what is expected of other texts
+unfoldable pub domain_words : DomainWhat → List ℕ
+domain_words domain.Const = codes "const"
+domain_words domain.ConstMore = codes ", or ;"
+domain_words domain.Name = codes "name"
+domain_words domain.Arity = codes "arity"
+domain_words domain.ParenEnd = codes ")"
+
+-- why no ground problem is made of such a text
+unfoldable pub ground_words : GroundKind → List ℕ
+ground_words (grounds.Read kind) = kind_words kind
+ground_words (grounds.Expected what) = codes "expected " ++ domain_words what
+ground_words grounds.BadName = codes "bad name"
+ground_words grounds.NameTaken = codes "name taken"
+ground_words grounds.TooManyNames = codes "too many names"
+ground_words grounds.BadArity = codes "bad arity"
+ground_words grounds.UnknownName = codes "unknown name"
+ground_words grounds.WrongCount = codes "wrong count"
+ground_words grounds.GroundTooLarge = codes "ground too large"
+ground_words grounds.AtomTooLong = codes "atom too long"
+ground_words grounds.GroundTooDeep = codes "ground too deep"
 
 -- what is wrong with a line of a report
 unfoldable pub line_words : LineKind → List ℕ

@@ -1,12 +1,16 @@
 //! A text to be written.
 ghost use Rattle.std.specs.Prelude.{string_bytes};
 ghost use Rattle.ps_messages.specs.Lines.{accepted, line, refused, refused_line, refused_maxsat};
-ghost use Rattle.ps_messages.specs.Lines.{too_long, unreadable, unreadable_clauses, usage};
+ghost use Rattle.ps_messages.specs.Lines.{too_long, ungrounded, unreadable, unreadable_clauses};
+ghost use Rattle.ps_messages.specs.Lines.{usage};
 ghost use Rattle.ps_messages.specs.Messages.{Says};
 
-use crate::shown::{claim_text, kind_text, line_text, max_reason_text, reason_text, wcnf_text};
+use crate::shown::{
+    claim_text, ground_text, kind_text, line_text, max_reason_text, reason_text, wcnf_text,
+};
 use crate::status::Status;
 use ps_answer::LineKind;
+use ps_domains::GroundKind;
 use ps_max_answer::MaxError;
 use ps_text::ReadKind;
 use ps_valid::{Accepted, Refusal};
@@ -37,7 +41,7 @@ impl Message {
     {
         let text = String::from_str(
             alloc,
-            "usage: psat solve|explain|check|upgrade|maxsat|check-maxsat|make N \
+            "usage: psat solve|explain|check|upgrade|maxsat|check-maxsat|ground|make N \
              [--pivots N|enough] [--conflicts N] [--bytes N]",
         )?;
         Message::line(text, Status::Usage)
@@ -61,6 +65,21 @@ impl Message {
         ensures { Says result (unreadable kind (record { line = line; column = column })) }
     {
         let kind = kind_text(alloc, kind)?;
+        let text = format!(in alloc; "unreadable: {kind} at {line}:{column}")?;
+        Message::line(text, Status::Unreadable)
+    }
+
+    /// The message for a text over listed constants of which no ground problem is made: why, and at
+    /// which line and column.
+    pub fn ungrounded(
+        alloc: Global,
+        kind: GroundKind,
+        line: u32,
+        column: u32,
+    ) -> Result<Message, AllocError>
+        ensures { Says result (ungrounded kind (record { line = line; column = column })) }
+    {
+        let kind = ground_text(alloc, kind)?;
         let text = format!(in alloc; "unreadable: {kind} at {line}:{column}")?;
         Message::line(text, Status::Unreadable)
     }

@@ -2,10 +2,12 @@
 ghost use Rattle.std.specs.Prelude.{◌≡◌, IfOk, string_bytes};
 ghost use Rattle.ps_claims.specs.declared.reason.Reason.TheVariants as reasons;
 ghost use Rattle.ps_max_answer.specs.declared.max_error.MaxError.TheVariants as max;
-ghost use Rattle.ps_messages.specs.Words.{claim_words, kind_words, line_words, reason_words};
+ghost use Rattle.ps_messages.specs.Words.{claim_words, domain_words, ground_words, kind_words};
+ghost use Rattle.ps_messages.specs.Words.{line_words, reason_words};
 ghost use Rattle.ps_messages.specs.Words.{max_reason_words, wcnf_words, what_words, why_words};
 
 use ps_answer::LineKind;
+use ps_domains::{DomainWhat, GroundKind};
 use ps_max_answer::MaxError;
 use ps_pb::StepRefused;
 use ps_text::{ReadKind, What};
@@ -63,6 +65,43 @@ pub fn kind_text(alloc: Global, kind: ReadKind) -> Result<String, AllocError>
         ReadKind::TooManyQueries => String::from_str(alloc, "too many queries"),
         ReadKind::LinearTooLarge => String::from_str(alloc, "linear too large"),
         ReadKind::MoreAfterEnd => String::from_str(alloc, "more after end"),
+    }
+}
+
+// What is expected at a place of a text over listed constants.
+#[tactic(auto, unfolding(crate::specs::Words::domain_words))]
+fn domain_text(what: DomainWhat) -> &'static str
+    ensures { result.now ≡ domain_words what }
+{
+    match what {
+        DomainWhat::Const => "const",
+        DomainWhat::ConstMore => ", or ;",
+        DomainWhat::Name => "name",
+        DomainWhat::Arity => "arity",
+        DomainWhat::ParenEnd => ")",
+    }
+}
+
+/// Why no ground problem is made of a text over listed constants.
+#[tactic(auto, unfolding(crate::specs::Words::ground_words))]
+pub fn ground_text(alloc: Global, kind: GroundKind) -> Result<String, AllocError>
+    ensures { IfOk result (λ text. string_bytes text ≡ ground_words kind) }
+{
+    match kind {
+        GroundKind::Read(kind) => kind_text(alloc, kind),
+        GroundKind::Expected(what) => {
+            let what = domain_text(what);
+            format!(in alloc; "expected {what}")
+        }
+        GroundKind::BadName => String::from_str(alloc, "bad name"),
+        GroundKind::NameTaken => String::from_str(alloc, "name taken"),
+        GroundKind::TooManyNames => String::from_str(alloc, "too many names"),
+        GroundKind::BadArity => String::from_str(alloc, "bad arity"),
+        GroundKind::UnknownName => String::from_str(alloc, "unknown name"),
+        GroundKind::WrongCount => String::from_str(alloc, "wrong count"),
+        GroundKind::GroundTooLarge => String::from_str(alloc, "ground too large"),
+        GroundKind::AtomTooLong => String::from_str(alloc, "atom too long"),
+        GroundKind::GroundTooDeep => String::from_str(alloc, "ground too deep"),
     }
 }
 

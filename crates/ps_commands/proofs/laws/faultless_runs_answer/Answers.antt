@@ -1,4 +1,4 @@
-use Rattle.ps_commands.proofs.Answering.{answer_judged, clauses_answered, faultless_answer, problem_explained, problem_made, problem_solved, problem_upgraded, report_judged}
+use Rattle.ps_commands.proofs.Answering.{answer_judged, clauses_answered, faultless_answer, problem_explained, problem_made, problem_solved, problem_upgraded, report_judged, text_grounded}
 use Rattle.ps_commands.proofs.laws.faultless_runs_answer.Goals as goal
 
 pub returns-clause-answered : goal.returns-clause-answered
@@ -18,6 +18,9 @@ returns-clause-made c = problem_made
 
 pub returns-clause-upgraded : goal.returns-clause-upgraded
 returns-clause-upgraded c = problem_upgraded
+
+pub returns-clause-made_ground : goal.returns-clause-made_ground
+returns-clause-made_ground c = text_grounded
 
 pub returns-clause-weighted : goal.returns-clause-weighted
 returns-clause-weighted c = clauses_answered
