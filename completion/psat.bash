@@ -15,7 +15,7 @@ _psat() {
     local command=${COMP_WORDS[1]} before=${COMP_WORDS[COMP_CWORD-1]} now=${COMP_WORDS[COMP_CWORD]}
     COMPREPLY=()
     if [ "$COMP_CWORD" -eq 1 ]; then
-        mapfile -t COMPREPLY < <(compgen -W 'solve explain check upgrade maxsat check-maxsat make' -- "$now")
+        mapfile -t COMPREPLY < <(compgen -W 'solve explain check upgrade maxsat check-maxsat ground make' -- "$now")
     elif [ "$before" = --pivots ]; then
         [ "$command" = make ] || mapfile -t COMPREPLY < <(compgen -W enough -- "$now")
     elif [ "$before" = --conflicts ] || [ "$before" = --bytes ]; then

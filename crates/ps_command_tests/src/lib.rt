@@ -8,6 +8,8 @@ mod explaining;
 #[cfg(test)]
 mod faults;
 #[cfg(test)]
+mod grounding;
+#[cfg(test)]
 mod linear;
 #[cfg(test)]
 mod making;

@@ -371,9 +371,9 @@ pub fn parse_words(words: &[String]) -> Option<Command>
         [name, settings @ ..] if is(name, "make") => parse_make(settings),
         [name, settings @ ..] if is(name, "check") => parse_check(settings),
         [name, settings @ ..] if is(name, "upgrade") => parse_upgrade(settings),
-        [name, settings @ ..] if is(name, "ground") => parse_ground(settings),
         [name, settings @ ..] if is(name, "maxsat") => parse_maxsat(settings),
         [name, settings @ ..] if is(name, "check-maxsat") => parse_check_maxsat(settings),
+        [name, settings @ ..] if is(name, "ground") => parse_ground(settings),
         _ => None,
     }
 }

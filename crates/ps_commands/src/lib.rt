@@ -1,7 +1,7 @@
 //! The commands of a solver and checker for probabilistic logic: it answers a problem with a report,
 //! judges a report on a problem, explains why a problem's sentences can't be met, writes a problem's
-//! canonical text, and makes problems; it looks for optima of weighted clauses, and judges answers
-//! about them.
+//! canonical text and the ground problem of a text over listed constants, and makes problems; it looks
+//! for optima of weighted clauses, and judges answers about them.
 #![tactic(auto)]
 
 mod answered;
