@@ -103,7 +103,7 @@ module _ (p : Parts) (side : BoundSide) (q : stored.Query) (d : Dual) (lines : L
 
   pub one_noted : {T E : Type 0} (r : Result T E) (i : ℕ) (places : List BoundPlace) (place : BoundPlace) (y : ℤ) → places ≡ places_in 1 p.sentences
       → slice_get places i ≡ Some place → y ≡ get_or d.rows i (pos 0) → (y ≡ pos 0 → ⊥)
-      → (old new : List Supporting) → OnOk r (new ≡ old ++ told p side q d lines i place) → OnOk r (new ≡ old ++ option_to_list (support_at p side q d lines i))
+      → (old new : List Supporting) → OnOk r (new ≡ old ++ told p side q d lines (i, place)) → OnOk r (new ≡ old ++ option_to_list (support_at p side q d lines i))
   one_noted (Ok x) i places place y e there is other old new h =
       h ∙ ap (λ (o : Option Supporting). old ++ option_to_list o) (sym (at-place i places place e there (subst (λ (z : ℤ). is_other z ≡ true) is (other-of y other))))
   one_noted (Err x) i places place y e there is other old new h = tt

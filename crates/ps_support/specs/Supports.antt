@@ -104,11 +104,11 @@ supporting side q bound place line y = record {
   weight = unsigned_abs (size_of y.0 (unit_of bound));
 }
 
--- the same of the bound at a place of the problem, by a dual
-abbrev pub told : Parts → BoundSide → stored.Query → Dual → List ℕ → ℕ → BoundPlace → List Supporting
-told p side q d lines i place =
-    supporting side q (slice_get (bounds_in p.sentences) i) place (line_in lines place.sentence)
-    (get_or d.rows i (pos 0), d.top) ∷ []
+-- the same of the bound at a place of the problem, which belongs to this sentence, by a dual
+abbrev pub told : Parts → BoundSide → stored.Query → Dual → List ℕ → ℕ × BoundPlace → List Supporting
+told p side q d lines at =
+    supporting side q (slice_get (bounds_in p.sentences) at.0) at.1 (line_in lines at.1.sentence)
+    (get_or d.rows at.0 (pos 0), d.top) ∷ []
 
 -- the same at a place, where there is one and the multiplier isn't 0
 abbrev pub support_by : BoundSide → stored.Query → Option BoundIn → Option BoundPlace → List ℕ → ℤ × ℤ → Option Supporting

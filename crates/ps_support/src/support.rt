@@ -131,7 +131,7 @@ fn push_supporting(
     requires small { IsSmallDual dual.now }
     requires top { pos 1 ≤ℤ dual.now.top }
     ensures { Notes result found.old found.new
-        (told problem.now side query dual.now lines.now i at) }
+        (told problem.now side query dual.now lines.now (i, at)) }
 {
     let size = size_of(multiplier_at(dual, i), unit_at(problem, i));
     let rate = rate_of(side, size, dual.top);
