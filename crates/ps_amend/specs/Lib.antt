@@ -1,0 +1,2 @@
+-- Meaning: problems without some sentences and with more queries
+pub mod Amended
