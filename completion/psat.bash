@@ -60,7 +60,7 @@ _psat_ask() {
     *)
         case $now in
         -*)
-            _psat_options --digits --quiet --json --report --pivots --conflicts --time-limit --no-warnings --no-progress --help --version
+            _psat_options --digits --quiet --json --why --example --report --pivots --conflicts --time-limit --no-warnings --no-progress --help --version
             ;;
         esac
         ;;

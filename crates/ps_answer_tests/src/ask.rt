@@ -2,6 +2,7 @@
 ghost use Rattle.std.specs.Prelude.{◌==◌};
 ghost use Rattle.ps_ask.specs.Shown.{AreSettings};
 
+use detail_rows::{EXAMPLES, WHY};
 use late_rows::{LATE, RESTS};
 use ps_ask::{
     ClaimKind, Company, Progress, Settings, Sinks, Sought, Status, Style, Wanted, Watch, Work, ask,
@@ -12,6 +13,7 @@ use rows::{OPEN, PROBLEM, ROWS, Row, UNWARNED, WORDS};
 use std::alloc::Global;
 use std::test::*;
 
+mod detail_rows;
 mod late_rows;
 mod rows;
 
@@ -27,6 +29,8 @@ fn settings(style: Style) -> Settings
         },
         digits: DIGITS,
         style,
+        tells_support: false,
+        tells_examples: false,
         reports: true,
         warns: Wanted::all(true),
         is_timed: false,
@@ -110,6 +114,26 @@ fn shows_in_time(alloc: Global, settings: Settings, left: u32, row: &Row) -> Res
 fn inputs_are_answered(rt: HostRuntime) -> Result<(), Fail> {
     for row in &ROWS {
         assert!(rt; shows(rt.alloc(), settings(row.style), row)?);
+    }
+    Ok(())
+}
+
+#[test]
+fn sentences_are_told_on_which_bounds_rest(rt: HostRuntime) -> Result<(), Fail> {
+    for row in &WHY {
+        let mut why = settings(row.style);
+        why.tells_support = true;
+        assert!(rt; shows(rt.alloc(), why, row)?);
+    }
+    Ok(())
+}
+
+#[test]
+fn distributions_are_shown_that_reach_bounds(rt: HostRuntime) -> Result<(), Fail> {
+    for row in &EXAMPLES {
+        let mut shown = settings(row.style);
+        shown.tells_examples = true;
+        assert!(rt; shows(rt.alloc(), shown, row)?);
     }
     Ok(())
 }

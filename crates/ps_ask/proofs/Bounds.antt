@@ -1,5 +1,5 @@
 -- Between which numbers bounds lie, by values that are reached.
-use Rattle.std.proofs.Common.{◌≡◌, ℕ, ℤ, pos, ◌*ℤ◌, ◌≤ℤ◌, ◌+ℤ◌, Bool, true, false, cond, ◌&&◌, List, [], ◌∷◌, All, length, sym, refl, arith}
+use Rattle.std.proofs.Common.{◌≡◌, ℕ, ℤ, pos, ◌*ℤ◌, ◌≤ℤ◌, ◌+ℤ◌, Bool, true, false, cond, ◌&&◌, List, [], ◌∷◌, All, refl, arith}
 use Rattle.std.proofs.lemmas.Int.{ints}
 use Rattle.std.proofs.lemmas.List.Elements.{All-tail}
 use Rattle.ps_meaning.specs.Formula.{Formula, And, is_true}
@@ -9,7 +9,7 @@ use Rattle.ps_meaning.specs.Gcd.{gcd, gcd_within}
 use Rattle.ps_meaning.specs.Rational.{quotient, zero_q, one_q}
 use Rattle.ps_meaning.specs.declared.side.Side.TheVariants as side
 use Rattle.ps_meaning.proofs.Weights.{weight-nonneg}
-use Rattle.ps_claims.specs.Queries.{Query, Holds, IsAllowed}
+use Rattle.ps_claims.specs.Queries.{Query, Holds}
 use Rattle.ps_claims.proofs.Tight.{lower-tight, upper-tight}
 use Rattle.ps_ask.specs.Reached.{ReachedValuesBound}
 

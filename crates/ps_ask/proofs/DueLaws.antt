@@ -12,7 +12,7 @@ use Rattle.ps_read.specs.declared.read_error.ReadError.TheVariants as unread
 use Rattle.ps_read.specs.Readings.{SpellsWhole, IsUnreadWhole}
 use Rattle.ps_read.specs.Reads.{Tells}
 use Rattle.ps_spoken.specs.Objects.{Beside}
-use Rattle.ps_spoken.specs.declared.reached.Reached.{Reached}
+use Rattle.ps_spoken.specs.declared.details.Details.{Details}
 use Rattle.ps_ask.specs.declared.answering.TheConstants.{MOST_PROBLEM}
 use Rattle.ps_ask.specs.declared.settings.Settings.{Settings}
 use Rattle.ps_ask.specs.declared.status.Status.{Status}
@@ -23,7 +23,8 @@ use Rattle.ps_ask.specs.declared.reply.ReplyError.{ReplyError}
 use Rattle.ps_ask.specs.declared.reply.ReplyError.TheVariants as errors
 use Rattle.ps_ask.specs.Late.{is_late}
 use Rattle.ps_ask.specs.Statuses.{HasText, status_after, status_by}
-use Rattle.ps_ask.specs.Fronts.{AreReachedAfter, IsBegunText, IsWhole, begun_text}
+use Rattle.ps_ask.specs.Details.{AreToldAsAsked}
+use Rattle.ps_ask.specs.Fronts.{AreTrueAfter, IsBegunText, IsWhole, begun_text}
 use Rattle.ps_ask.specs.Shown.{AsItGoes, CountsReads, IsText, Shown, NoProblem, TooLong, answer_output, last_text, wanted_report}
 use Rattle.ps_ask.specs.Replies.{AreShortInTime, Ended, HasShown, Shows, IsDueAfter, IsOf, IsShort, IsShownFor, IsSolvedAfter, last_of, output_after, report_by, status_of, status_with}
 use Rattle.ps_ask.proofs.EndLaws.{ended_as, nothing_appended, nothing_ended}
@@ -44,28 +45,29 @@ short-is timed a (Text b text) h k = subst (AreShortInTime timed) (sym h) k
 short-is timed a (Report b) h k = subst (AreShortInTime timed) (sym h) k
 
 output-is : (s : Settings) (p : Parts) (a : Answer) (r : Reply) (t : Beside) → last_of s.is_timed r ≡ last_text s.style s.is_timed p a t → IsOf a r
-    → output_after s (begun_text s.style s.digits p a t.reached) r ≡ answer_output s p a t
+    → output_after s (begun_text s.style s.digits p a t.details) r ≡ answer_output s p a t
 output-is s p a r t e h =
     let reported = report-is s a r h in
     let ends = status-is s.is_timed a r h in
-    λ i. record { text = begun_text s.style s.digits p a t.reached ++ e i; report = reported i; status = ends i }
+    λ i. record { text = begun_text s.style s.digits p a t.details ++ e i; report = reported i; status = ends i }
 
-pub solved_after : (s : Settings) (name : List ℕ) (p : Parts) (a : Answer) (rs : List (Option Reached)) (r : Reply) (old new : Option (List ℕ)) → IsWhole s p a → AreReachedAfter p a.verdict rs
-    → Appends old new (begun_text s.style s.digits p a rs) → IsShownFor s name p a rs r → IsSolvedAfter s name p old new r
-solved_after s name p a rs r old new h told w k = record {
-  begun = begun_text s.style s.digits p a k.beside.reached;
-  written = subst (λ (x : List (Option Reached)). Appends old new (begun_text s.style s.digits p a x)) (sym k.reached_is) w;
+pub solved_after : (s : Settings) (name : List ℕ) (p : Parts) (a : Answer) (rs : List Details) (r : Reply) (old new : Option (List ℕ)) → IsWhole s p a → AreTrueAfter p a.verdict rs
+    → AreToldAsAsked s a.parts rs → Appends old new (begun_text s.style s.digits p a rs) → IsShownFor s name p a rs r → IsSolvedAfter s name p old new r
+solved_after s name p a rs r old new h told asked w k = record {
+  begun = begun_text s.style s.digits p a k.beside.details;
+  written = subst (λ (x : List Details). Appends old new (begun_text s.style s.digits p a x)) (sym k.details_is) w;
   solved = record {
     answer = a;
     whole = h;
     beside = k.beside;
     told = k.told;
-    reached = subst (AreReachedAfter p a.verdict) (sym k.reached_is) told;
+    details = subst (AreTrueAfter p a.verdict) (sym k.details_is) told;
+    asked = subst (AreToldAsAsked s a.parts) (sym k.details_is) asked;
     is = output-is s p a r k.beside k.last_is k.answer_is;
   };
 }
 
-pub short_after : (s : Settings) (name : List ℕ) (p : Parts) (a : Answer) (rs : List (Option Reached)) (r : Reply) → AreShortInTime s.is_timed a → IsShownFor s name p a rs r → IsShort s.is_timed r
+pub short_after : (s : Settings) (name : List ℕ) (p : Parts) (a : Answer) (rs : List Details) (r : Reply) → AreShortInTime s.is_timed a → IsShownFor s name p a rs r → IsShort s.is_timed r
 short_after s name p a rs r h k = short-is s.is_timed a r k.answer_is h
 
 -- a status that goes with an output

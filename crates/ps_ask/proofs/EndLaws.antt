@@ -11,8 +11,8 @@ use Rattle.ps_problem.specs.Problems.{Parts}
 use Rattle.ps_table.specs.declared.event.Event.{Event}
 use Rattle.ps_answer.specs.declared.answer.QueryPart.{QueryPart}
 use Rattle.ps_answer.specs.declared.answer.Verdict.{Verdict}
-use Rattle.ps_spoken.specs.declared.reached.Reached.{Reached}
-use Rattle.ps_ask.specs.Reached.{IsReachedAsTold}
+use Rattle.ps_spoken.specs.declared.details.Details.{Details}
+use Rattle.ps_ask.specs.Details.{IsToldAsAsked, IsTrueOf}
 use Rattle.ps_ask.specs.declared.settings.Settings.{Settings}
 use Rattle.ps_ask.specs.Fronts.{IsShownPart, IsShownVerdict, part_piece, verdict_piece}
 use Rattle.ps_ask.specs.Replies.{Ended, IsCut, IsPiece, IsVerdictPiece, WroteSome}
@@ -74,7 +74,7 @@ pub verdict_cut : (s : Settings) (p : Parts) (v : Verdict) (events : List Event)
 verdict_cut s p v events e old new text is same c =
     cut_ended (IsVerdictPiece s p) e old new text c (record { verdict = v; events = events; shown = is; is = same })
 
-pub part_cut : (s : Settings) (p : Parts) (q : Query) (part : QueryPart) (r : Option Reached) (e : ReplyError) (old new : Option (List ℕ)) (text : List ℕ) → IsShownPart s p q part
-    → IsReachedAsTold p q r → text ≡ part_piece s.style s.digits p q part r → IsCut e old new text → Ended (IsPiece s p q) e old new
-part_cut s p q part r e old new text is told same c =
-    cut_ended (IsPiece s p q) e old new text c (record { part = part; reached = r; shown = is; told = told; is = same })
+pub part_cut : (s : Settings) (p : Parts) (q : Query) (part : QueryPart) (r : Details) (e : ReplyError) (old new : Option (List ℕ)) (text : List ℕ) → IsShownPart s p q part
+    → IsTrueOf p q r → IsToldAsAsked s part r → text ≡ part_piece s.style s.digits p q part r → IsCut e old new text → Ended (IsPiece s p q) e old new
+part_cut s p q part r e old new text is told asked same c =
+    cut_ended (IsPiece s p q) e old new text c (record { part = part; details = r; shown = is; told = told; asked = asked; is = same })

@@ -1,5 +1,5 @@
 -- An answer as it goes.
-use Rattle.std.proofs.Common.{◌≡◌, ◌∙◌, ℕ, ◌+◌, ◌<◌, ◌≤◌, Bool, true, false, List, [], ◌∷◌, ◌++◌, length, take, get_or, refl, sym, ap, subst, append_assoc, append-nil, inl, inr, Option, arith}
+use Rattle.std.proofs.Common.{◌≡◌, ◌∙◌, ℕ, ◌+◌, ◌<◌, ◌≤◌, Bool, true, false, List, [], ◌∷◌, ◌++◌, length, take, get_or, refl, sym, ap, subst, append_assoc, append-nil, inl, inr, arith}
 use Rattle.std.specs.Prelude.{◌⊎◌, ◌&&◌, ◌||◌}
 use Rattle.std.specs.List.{AllZip}
 use Rattle.std.proofs.lemmas.List.{take_all}
@@ -19,8 +19,8 @@ use Rattle.ps_generation.specs.Phases.{AreLimits}
 use Rattle.ps_query.proofs.Loops.{zip_next}
 use Rattle.ps_guess.specs.Solutions.{IsAnsweredPart, IsAnsweredVerdict}
 use Rattle.ps_guess.proofs.Settled.{solution, short}
-use Rattle.ps_ask.specs.Reached.{AreReachedAsTold, IsReachedAsTold}
-use Rattle.ps_spoken.specs.declared.reached.Reached.{Reached}
+use Rattle.ps_ask.specs.Details.{AreToldAsAsked, AreTrueOf, IsToldAsAsked, IsTrueOf}
+use Rattle.ps_spoken.specs.declared.details.Details.{Details}
 use Rattle.ps_spoken.specs.Spoken.{spoken, part_text, parts_text}
 use Rattle.ps_spoken.specs.Quiet.{values_of}
 use Rattle.ps_spoken.proofs.Values.{values-push}
@@ -29,11 +29,11 @@ use Rattle.ps_ask.specs.declared.settings.Settings.{Settings}
 use Rattle.ps_ask.specs.declared.settings.Style.{Style}
 use Rattle.ps_ask.specs.declared.settings.Style.TheVariants.{Words, Values, Exact, Json, Report}
 use Rattle.ps_ask.specs.Late.{is_late, is_late_answer, is_late_in, is_late_verdict}
-use Rattle.ps_ask.specs.Fronts.{AreReachedAfter, AreReachedTo, AreShownParts, IsBegunText, IsLatePart, IsLateVerdict, IsShownPart, IsShownVerdict, IsWhole, begun_text, part_piece, parts_pieces, verdict_piece}
+use Rattle.ps_ask.specs.Fronts.{AreShownParts, AreTrueAfter, AreTrueTo, IsBegunText, IsLatePart, IsLateVerdict, IsShownPart, IsShownVerdict, IsWhole, begun_text, part_piece, parts_pieces, verdict_piece}
 use Rattle.ps_ask.specs.Replies.{AreShortInTime, ArePiecesFor, IsPiece, IsVerdictPiece}
 
 -- ---- pieces
-begun_is : (style : Style) (digits : ℕ) (p : Parts) (a : Answer) (rs : List (Option Reached)) → begun_text style digits p a rs ≡ verdict_piece style a.verdict ++ parts_pieces style digits p a.parts rs
+begun_is : (style : Style) (digits : ℕ) (p : Parts) (a : Answer) (rs : List Details) → begun_text style digits p a rs ≡ verdict_piece style a.verdict ++ parts_pieces style digits p a.parts rs
 unfolding spoken values_of
 begun_is Words digits p a rs = refl
 begun_is Values digits p a rs = refl
@@ -42,11 +42,11 @@ begun_is Json digits p a rs = refl
 begun_is Report digits p a rs = refl
 
 module _ (digits : ℕ) (p : Parts) where
-  texts-none : (qs : List Query) (rs : List (Option Reached)) → parts_text digits p qs [] rs ≡ []
+  texts-none : (qs : List Query) (rs : List Details) → parts_text digits p qs [] rs ≡ []
   texts-none [] rs = refl
   texts-none (q ∷ qs) rs = refl
 
-  texts-next : (qs : List Query) (parts : List QueryPart) (part : QueryPart) (rs : List (Option Reached)) (r : Option Reached) (d : Query) → length parts < length qs → length rs ≡ length parts
+  texts-next : (qs : List Query) (parts : List QueryPart) (part : QueryPart) (rs : List Details) (r : Details) (d : Query) → length parts < length qs → length rs ≡ length parts
       → parts_text digits p qs (parts ++ part ∷ []) (rs ++ r ∷ []) ≡ parts_text digits p qs parts rs ++ part_text digits p (get_or qs (length parts) d) part r
   texts-next [] parts part rs r d lt same = absurd (omega (arith, lt))
   texts-next (q ∷ qs) [] part [] r d lt same = ap (λ t. part_text digits p q part r ++ t) (texts-none qs []) ∙ append-nil (part_text digits p q part r)
@@ -56,14 +56,14 @@ module _ (digits : ℕ) (p : Parts) where
       ap (λ t. part_text digits p q y x ++ t) (texts-next qs parts part rs r d (omega (arith, lt)) (omega (arith, same)))
       ∙ sym (append_assoc (part_text digits p q y x) (parts_text digits p qs parts rs) (part_text digits p (get_or qs (length parts) d) part r))
 
-pub pieces_none : (style : Style) (digits : ℕ) (p : Parts) (rs : List (Option Reached)) → parts_pieces style digits p [] rs ≡ []
+pub pieces_none : (style : Style) (digits : ℕ) (p : Parts) (rs : List Details) → parts_pieces style digits p [] rs ≡ []
 pieces_none Words digits p rs = texts-none digits p p.queries rs
 pieces_none Values digits p rs = refl
 pieces_none Exact digits p rs = refl
 pieces_none Json digits p rs = refl
 pieces_none Report digits p rs = refl
 
-pieces_next : (style : Style) (digits : ℕ) (p : Parts) (parts : List QueryPart) (part : QueryPart) (rs : List (Option Reached)) (r : Option Reached) (d : Query)
+pieces_next : (style : Style) (digits : ℕ) (p : Parts) (parts : List QueryPart) (part : QueryPart) (rs : List Details) (r : Details) (d : Query)
     → length parts < length p.queries → length rs ≡ length parts
     → parts_pieces style digits p (parts ++ part ∷ []) (rs ++ r ∷ []) ≡ parts_pieces style digits p parts rs ++ part_piece style digits p (get_or p.queries (length parts) d) part r
 pieces_next Words digits p parts part rs r d lt same = texts-next digits p p.queries parts part rs r d lt same
@@ -77,32 +77,43 @@ length-next : {A : Type 0} (xs : List A) (x : A) → length (xs ++ x ∷ []) ≡
 length-next [] x = refl
 length-next (y ∷ xs) x = let h = length-next xs x in omega (arith, h)
 
--- the parts of the first queries, with what is reached of each
-pub record ArePartsTo (s : Settings) (p : Parts) (i : ℕ) (parts : List QueryPart) (rs : List (Option Reached)) : Type 0 where
+-- what is told with each of some parts is as asked, and so it is with one more
+asked-next : (s : Settings) (parts : List QueryPart) (rs : List Details) (part : QueryPart) (r : Details) → AreToldAsAsked s parts rs → IsToldAsAsked s part r
+    → AreToldAsAsked s (parts ++ part ∷ []) (rs ++ r ∷ [])
+asked-next s [] [] part r h k = (k, tt)
+asked-next s [] (x ∷ rs) part r h k = absurd h
+asked-next s (y ∷ parts) [] part r h k = absurd h
+asked-next s (y ∷ parts) (x ∷ rs) part r h k = (h.0, asked-next s parts rs part r h.1 k)
+
+-- the parts of the first queries, with what is told of each
+pub record ArePartsTo (s : Settings) (p : Parts) (i : ℕ) (parts : List QueryPart) (rs : List Details) : Type 0 where
   pub count : length parts ≡ i
   pub shown : AreShownParts s p (take i p.queries) parts
   pub each : length rs ≡ i
-  pub told : AreReachedTo p p.queries i rs
+  pub told : AreTrueTo p p.queries i rs
+  pub asked : AreToldAsAsked s parts rs
 
-pub pieces_begun : (s : Settings) (p : Parts) (i : ℕ) (parts : List QueryPart) (rs : List (Option Reached)) → ArePartsTo s p i parts rs → ArePiecesFor s p p.queries (parts_pieces s.style s.digits p parts rs)
+pub pieces_begun : (s : Settings) (p : Parts) (i : ℕ) (parts : List QueryPart) (rs : List Details) → ArePartsTo s p i parts rs → ArePiecesFor s p p.queries (parts_pieces s.style s.digits p parts rs)
 pieces_begun s p i parts rs h = record {
   parts = parts;
-  reached = rs;
+  details = rs;
   shown = subst (λ k. AreShownParts s p (take k p.queries) parts) (sym h.count) h.shown;
-  told = subst (λ k. AreReachedTo p p.queries k rs) (sym h.count) h.told;
+  told = subst (λ k. AreTrueTo p p.queries k rs) (sym h.count) h.told;
+  asked = h.asked;
   is = refl;
 }
 
-module _ (s : Settings) (p : Parts) (i : ℕ) (parts : List QueryPart) (rs : List (Option Reached)) (q d : Query) (are : ArePartsTo s p i parts rs) (is : q ≡ get_or p.queries i d) (lt : i < length p.queries) where
-  pub parts_next : (part : QueryPart) (r : Option Reached) → IsShownPart s p q part → IsReachedAsTold p q r → ArePartsTo s p (i + 1) (parts ++ part ∷ []) (rs ++ r ∷ [])
-  parts_next part r h k = record {
+module _ (s : Settings) (p : Parts) (i : ℕ) (parts : List QueryPart) (rs : List Details) (q d : Query) (are : ArePartsTo s p i parts rs) (is : q ≡ get_or p.queries i d) (lt : i < length p.queries) where
+  pub parts_next : (part : QueryPart) (r : Details) → IsShownPart s p q part → IsTrueOf p q r → IsToldAsAsked s part r → ArePartsTo s p (i + 1) (parts ++ part ∷ []) (rs ++ r ∷ [])
+  parts_next part r h k l = record {
     count = length-next parts part ∙ ap (λ k. k + 1) are.count;
     shown = zip_next (IsShownPart s p) p.queries parts i d part lt are.shown (subst (λ x. IsShownPart s p x part) is h);
     each = length-next rs r ∙ ap (λ k. k + 1) are.each;
-    told = zip_next (IsReachedAsTold p) p.queries rs i d r lt are.told (subst (λ x. IsReachedAsTold p x r) is k);
+    told = zip_next (IsTrueOf p) p.queries rs i d r lt are.told (subst (λ x. IsTrueOf p x r) is k);
+    asked = asked-next s parts rs part r are.asked l;
   }
 
-  pub text_next : (part : QueryPart) (r : Option Reached)
+  pub text_next : (part : QueryPart) (r : Details)
       → parts_pieces s.style s.digits p (parts ++ part ∷ []) (rs ++ r ∷ []) ≡ parts_pieces s.style s.digits p parts rs ++ part_piece s.style s.digits p q part r
   text_next part r =
       let within : length parts < length p.queries = omega (arith, are.count, lt) in
@@ -112,23 +123,24 @@ module _ (s : Settings) (p : Parts) (i : ℕ) (parts : List QueryPart) (rs : Lis
 
   pub pieces_more : (text : List ℕ) → IsPiece s p q text → ArePiecesFor s p p.queries (parts_pieces s.style s.digits p parts rs ++ text)
   pieces_more text h =
-      let next = parts_next h.part h.reached h.shown h.told in
+      let next = parts_next h.part h.details h.shown h.told h.asked in
       record {
         parts = parts ++ h.part ∷ [];
-        reached = rs ++ h.reached ∷ [];
+        details = rs ++ h.details ∷ [];
         shown = subst (λ k. AreShownParts s p (take k p.queries) (parts ++ h.part ∷ [])) (sym next.count) next.shown;
-        told = subst (λ k. AreReachedTo p p.queries k (rs ++ h.reached ∷ [])) (sym next.count) next.told;
-        is = ap (λ t. parts_pieces s.style s.digits p parts rs ++ t) h.is ∙ sym (text_next h.part h.reached);
+        told = subst (λ k. AreTrueTo p p.queries k (rs ++ h.details ∷ [])) (sym next.count) next.told;
+        asked = next.asked;
+        is = ap (λ t. parts_pieces s.style s.digits p parts rs ++ t) h.is ∙ sym (text_next h.part h.details);
       }
 
 pub parts_begin : (s : Settings) (p : Parts) → ArePartsTo s p 0 [] []
-parts_begin s p = record { count = refl; shown = tt; each = refl; told = tt }
+parts_begin s p = record { count = refl; shown = tt; each = refl; told = tt; asked = tt }
 
-pub parts_end : (s : Settings) (p : Parts) (i : ℕ) (parts : List QueryPart) (rs : List (Option Reached)) → ArePartsTo s p i parts rs → length p.queries ≤ i → AreShownParts s p p.queries parts
+pub parts_end : (s : Settings) (p : Parts) (i : ℕ) (parts : List QueryPart) (rs : List Details) → ArePartsTo s p i parts rs → length p.queries ≤ i → AreShownParts s p p.queries parts
 parts_end s p i parts rs h all = subst (λ qs. AreShownParts s p qs parts) (take_all i p.queries all) h.shown
 
-pub told_end : (s : Settings) (p : Parts) (i : ℕ) (parts : List QueryPart) (rs : List (Option Reached)) → ArePartsTo s p i parts rs → length p.queries ≤ i → AreReachedAsTold p p.queries rs
-told_end s p i parts rs h all = subst (λ qs. AreReachedAsTold p qs rs) (take_all i p.queries all) h.told
+pub told_end : (s : Settings) (p : Parts) (i : ℕ) (parts : List QueryPart) (rs : List Details) → ArePartsTo s p i parts rs → length p.queries ≤ i → AreTrueOf p p.queries rs
+told_end s p i parts rs h all = subst (λ qs. AreTrueOf p qs rs) (take_all i p.queries all) h.told
 
 -- ---- an answer under way
 pub begun_verdict : (s : Settings) (p : Parts) (text : List ℕ) → IsVerdictPiece s p text → IsBegunText s p text
@@ -136,9 +148,10 @@ begun_verdict s p text h =
     let a : Answer = record { verdict = h.verdict; first = h.events; parts = [] } in
     record {
       answer = a;
-      reached = [];
+      details = [];
       under_way = record { verdict = h.shown; parts = tt };
       told = tt;
+      asked = tt;
       is = h.is ∙ sym (append-nil (verdict_piece s.style h.verdict)) ∙ ap (λ t. verdict_piece s.style h.verdict ++ t) (sym (pieces_none s.style s.digits p []))
           ∙ sym (begun_is s.style s.digits p a []);
     }
@@ -149,26 +162,29 @@ begun_after s p v events is text h =
     let a : Answer = record { verdict = v; first = events; parts = h.parts } in
     record {
       answer = a;
-      reached = h.reached;
+      details = h.details;
       under_way = record { verdict = is; parts = h.shown };
       told = h.told;
-      is = ap (λ t. verdict_piece s.style v ++ t) h.is ∙ sym (begun_is s.style s.digits p a h.reached);
+      asked = h.asked;
+      is = ap (λ t. verdict_piece s.style v ++ t) h.is ∙ sym (begun_is s.style s.digits p a h.details);
     }
 
-pub begun_whole : (s : Settings) (p : Parts) (a : Answer) (rs : List (Option Reached)) → IsWhole s p a → AreReachedAfter p a.verdict rs → IsBegunText s p (begun_text s.style s.digits p a rs)
-begun_whole s p a rs h k =
+pub begun_whole : (s : Settings) (p : Parts) (a : Answer) (rs : List Details) → IsWhole s p a → AreTrueAfter p a.verdict rs → AreToldAsAsked s a.parts rs
+    → IsBegunText s p (begun_text s.style s.digits p a rs)
+begun_whole s p a rs h k asked =
     let long : length (asked_after a.verdict p.queries) ≡ length a.parts = sym (AllZip-long (IsShownPart s p) (asked_after a.verdict p.queries) a.parts h.parts) in
     let all : take (length a.parts) (asked_after a.verdict p.queries) ≡ asked_after a.verdict p.queries = take_all (length a.parts) (asked_after a.verdict p.queries) (omega (arith, long)) in
     record {
       answer = a;
-      reached = rs;
+      details = rs;
       under_way = record { verdict = h.verdict; parts = subst (λ qs. AreShownParts s p qs a.parts) (sym all) h.parts };
-      told = subst (λ qs. AreReachedAsTold p qs rs) (sym all) k;
+      told = subst (λ qs. AreTrueOf p qs rs) (sym all) k;
+      asked = asked;
       is = refl;
     }
 
 -- the text of a whole answer, from its pieces
-pub begun_all : (style : Style) (digits : ℕ) (p : Parts) (v : Verdict) (events : List Event) (parts : List QueryPart) (rs : List (Option Reached))
+pub begun_all : (style : Style) (digits : ℕ) (p : Parts) (v : Verdict) (events : List Event) (parts : List QueryPart) (rs : List Details)
     → verdict_piece style v ++ parts_pieces style digits p parts rs ≡ begun_text style digits p (record { verdict = v; first = events; parts = parts }) rs
 begun_all style digits p v events parts rs = sym (begun_is style digits p (record { verdict = v; first = events; parts = parts }) rs)
 

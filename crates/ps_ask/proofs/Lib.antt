@@ -8,6 +8,7 @@ pub mod ValueLaws
 pub mod Orders
 pub mod Bounds
 pub mod ReachedLaws
+pub mod DetailLaws
 pub mod FrontLaws
 pub mod StepLaws
 pub mod DueLaws
@@ -15,3 +16,4 @@ pub mod ReadLaws
 pub mod RunLaws
 pub mod Decimals
 pub mod RoundLaws
+pub mod UnusedLaws

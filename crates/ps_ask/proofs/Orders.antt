@@ -7,8 +7,6 @@ use Rattle.std.proofs.lemmas.Int.{ints}
 use Rattle.ps_meaning.specs.Rational.{Rational}
 use Rattle.ps_meaning.specs.Order.{AtMost, order_of}
 use Rattle.ps_meaning.proofs.Order.{at_most_from_cross, at_most_refl, at_most_trans}
-use Rattle.ps_problem.specs.declared.query.Query as stored
-use Rattle.ps_problem.specs.Problems.{Parts}
 use Rattle.ps_spoken.specs.declared.reached.Reached.{Reached}
 use Rattle.ps_ask.specs.Reached.{IsReached, IsTakenIn, KeepsReached}
 

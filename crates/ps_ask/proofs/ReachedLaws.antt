@@ -1,5 +1,5 @@
 -- What is reached of queries that are shown.
-use Rattle.std.proofs.Common.{◌≡◌, ℕ, List, Option, Some, None, length, subst}
+use Rattle.std.proofs.Common.{◌≡◌, List, Option, Some, None, length, subst}
 use Rattle.std.specs.Prelude.{IfSome}
 use Rattle.ps_meaning.specs.Rational.{Rational}
 use Rattle.ps_problem.specs.declared.query.Query.{Query}
@@ -23,7 +23,7 @@ use Rattle.ps_valid.specs.Answers.{side_of, verdict_of}
 use Rattle.ps_spoken.specs.declared.reached.Reached.{Reached}
 use Rattle.ps_ask.specs.Reached.{IsReached, IsReachedAsTold, KeepsReached}
 use Rattle.ps_ask.specs.declared.settings.Settings.{Settings}
-use Rattle.ps_ask.specs.Fronts.{IsShownPart, IsShownVerdict}
+use Rattle.ps_ask.specs.Fronts.{IsShownPart}
 use Rattle.ps_ask.specs.Known.{IsBoundAt, IsRightFor, KeepsKnownSides}
 
 -- the bound of a right side is reached

@@ -8,21 +8,20 @@ use Rattle.ps_table.specs.declared.event.Event.{Event}
 use Rattle.ps_runs.specs.Verdicts.{asked_after}
 use Rattle.ps_answer.specs.declared.answer.QueryPart.{QueryPart}
 use Rattle.ps_answer.specs.declared.answer.Verdict.{Verdict}
-use Rattle.ps_spoken.specs.declared.reached.Reached.{Reached}
+use Rattle.ps_spoken.specs.declared.details.Details.{Details}
 use Rattle.ps_ask.specs.declared.settings.Settings.{Settings}
 use Rattle.ps_ask.specs.declared.settings.Style.{Style}
 use Rattle.ps_ask.specs.declared.reply.ReplyError.{ReplyError}
-use Rattle.ps_ask.specs.declared.reply.ReplyError.TheVariants as errors
 use Rattle.ps_ask.specs.Fronts.{IsBegunText, IsShownVerdict, begun_text, parts_pieces, verdict_piece}
 use Rattle.ps_ask.specs.Replies.{ArePiecesFor, CountsShown, Ended, IsVerdictPiece}
 use Rattle.ps_ask.proofs.EndLaws.{ended_after, ended_as, nothing_appended}
 use Rattle.ps_ask.proofs.FrontLaws.{begun_after, begun_all, begun_verdict, pieces_none}
 
 -- no parts are shown by nothing
-pub nothing_shown : (style : Style) (digits : ℕ) (p : Parts) (rs : List (Option Reached)) (o : Option (List ℕ)) → Appends o o (parts_pieces style digits p [] rs)
+pub nothing_shown : (style : Style) (digits : ℕ) (p : Parts) (rs : List Details) (o : Option (List ℕ)) → Appends o o (parts_pieces style digits p [] rs)
 nothing_shown style digits p rs o = subst (λ t. Appends o o t) (sym (pieces_none style digits p rs)) (nothing_appended o)
 
-pub answer_wrote : (s : Settings) (p : Parts) (v : Verdict) (events : List Event) (parts : List QueryPart) (rs : List (Option Reached)) (old between new : Option (List ℕ))
+pub answer_wrote : (s : Settings) (p : Parts) (v : Verdict) (events : List Event) (parts : List QueryPart) (rs : List Details) (old between new : Option (List ℕ))
     → Appends old between (verdict_piece s.style v) → Appends between new (parts_pieces s.style s.digits p parts rs)
     → Appends old new (begun_text s.style s.digits p (record { verdict = v; first = events; parts = parts }) rs)
 answer_wrote s p v events parts rs old between new a b =

@@ -4,8 +4,8 @@ use Rattle.std.specs.Prelude.{IfSome}
 use Rattle.std.proofs.lemmas.Int.{ints}
 use Rattle.std.proofs.lemmas.List.{get_or_default}
 use Rattle.std.proofs.Math.ListN.{get_or-map as read-map}
-use Rattle.ps_meaning.specs.Formula.{World, Truth, And, is_true}
-use Rattle.ps_meaning.specs.Distribution.{Entry, weight}
+use Rattle.ps_meaning.specs.Formula.{World, Truth, is_true}
+use Rattle.ps_meaning.specs.Distribution.{weight}
 use Rattle.ps_meaning.specs.Rational.{Rational, fraction}
 use Rattle.ps_meaning.proofs.IntRing.{*ℤ_comm}
 use Rattle.ps_formula.specs.declared.node.Node.{Node}

@@ -16,8 +16,8 @@ use Rattle.ps_runs.specs.Verdicts.{asked_after}
 use Rattle.ps_claims.specs.Printed.{IsPrintedPart}
 use Rattle.ps_guess.specs.Known.{AreFound}
 use Rattle.ps_guess.specs.Solutions.{IsAnsweredPart, IsAnsweredVerdict, IsSettledSolution}
-use Rattle.ps_ask.specs.Reached.{AreReachedAsTold}
-use Rattle.ps_spoken.specs.declared.reached.Reached.{Reached}
+use Rattle.ps_spoken.specs.declared.details.Details.{Details}
+use Rattle.ps_ask.specs.Details.{AreToldAsAsked, AreTrueOf}
 use Rattle.ps_spoken.specs.Spoken.{spoken, out_of_time, verdict_text, part_text, parts_text}
 use Rattle.ps_spoken.specs.Exact.{exact_of, query_exact, parts_exact}
 use Rattle.ps_spoken.specs.Quiet.{values_of, verdict_value, query_values, parts_values}
@@ -83,14 +83,14 @@ pub record IsWhole (s : Settings) (p : Parts) (a : Answer) : Type 0 where
   pub settled : is_late s.is_timed a ≡ false → IsSettledSolution s.limits p a
 
 -- ---- what is shown as it goes
--- the text of an answer as far as it goes: in words, with what is reached of each query, or by its values. An object and a report
+-- the text of an answer as far as it goes: in words, with what is told of each query, or by its values. An object and a report
 -- are shown whole, at the end
-abbrev pub begun_text : Style → ℕ → Parts → Answer → List (Option Reached) → List ℕ
-begun_text Words digits p a rs = spoken digits p a rs
-begun_text Values digits p a rs = values_of digits a
-begun_text Exact digits p a rs = exact_of a
-begun_text Json digits p a rs = []
-begun_text Report digits p a rs = []
+abbrev pub begun_text : Style → ℕ → Parts → Answer → List Details → List ℕ
+begun_text Words digits p a ts = spoken digits p a ts
+begun_text Values digits p a ts = values_of digits a
+begun_text Exact digits p a ts = exact_of a
+begun_text Json digits p a ts = []
+begun_text Report digits p a ts = []
 
 -- the piece of it that is the verdict's
 abbrev pub verdict_piece : Style → Verdict → List ℕ
@@ -100,47 +100,48 @@ verdict_piece Exact v = verdict_value v
 verdict_piece Json v = []
 verdict_piece Report v = []
 
--- the piece of it that is a part's, with what is reached of its query
-abbrev pub part_piece : Style → ℕ → Parts → Query → QueryPart → Option Reached → List ℕ
-part_piece Words digits p q part r = part_text digits p q part r
-part_piece Values digits p q part r = query_values digits part.answer
-part_piece Exact digits p q part r = query_exact part.answer
-part_piece Json digits p q part r = []
-part_piece Report digits p q part r = []
+-- the piece of it that is a part's, with what is told of its query
+abbrev pub part_piece : Style → ℕ → Parts → Query → QueryPart → Details → List ℕ
+part_piece Words digits p q part t = part_text digits p q part t
+part_piece Values digits p q part t = query_values digits part.answer
+part_piece Exact digits p q part t = query_exact part.answer
+part_piece Json digits p q part t = []
+part_piece Report digits p q part t = []
 
--- the pieces of the parts of the first queries, with what is reached of each
-abbrev pub parts_pieces : Style → ℕ → Parts → List QueryPart → List (Option Reached) → List ℕ
-parts_pieces Words digits p parts rs = parts_text digits p p.queries parts rs
-parts_pieces Values digits p parts rs = parts_values digits parts
-parts_pieces Exact digits p parts rs = parts_exact parts
-parts_pieces Json digits p parts rs = []
-parts_pieces Report digits p parts rs = []
+-- the pieces of the parts of the first queries, with what is told of each
+abbrev pub parts_pieces : Style → ℕ → Parts → List QueryPart → List Details → List ℕ
+parts_pieces Words digits p parts ts = parts_text digits p p.queries parts ts
+parts_pieces Values digits p parts ts = parts_values digits parts
+parts_pieces Exact digits p parts ts = parts_exact parts
+parts_pieces Json digits p parts ts = []
+parts_pieces Report digits p parts ts = []
 
 -- the same by the settings: the piece of the verdict, that of a part, those of parts, and the text of an answer
 abbrev pub verdict_shown : Settings → Verdict × List Event → List ℕ
 verdict_shown s v = verdict_piece s.style v.0
 
-abbrev pub piece_of : Settings → Parts → Query → QueryPart × Option Reached → List ℕ
+abbrev pub piece_of : Settings → Parts → Query → QueryPart × Details → List ℕ
 piece_of s p q x = part_piece s.style s.digits p q x.0 x.1
 
-abbrev pub pieces_of : Settings → Parts → List QueryPart × List (Option Reached) → List ℕ
+abbrev pub pieces_of : Settings → Parts → List QueryPart × List Details → List ℕ
 pieces_of s p x = parts_pieces s.style s.digits p x.0 x.1
 
-abbrev pub begun_of : Settings → Parts → Answer × List (Option Reached) → List ℕ
+abbrev pub begun_of : Settings → Parts → Answer × List Details → List ℕ
 begun_of s p x = begun_text s.style s.digits p x.0 x.1
 
--- what is told of the first of these queries, so many, is reached
-abbrev pub AreReachedTo : Parts → List Query → ℕ → List (Option Reached) → Type 0
-AreReachedTo p qs n rs = AreReachedAsTold p (take n qs) rs
+-- what is told of the first of these queries, so many, is true
+abbrev pub AreTrueTo : Parts → List Query → ℕ → List Details → Type 0
+AreTrueTo p qs n ts = AreTrueOf p (take n qs) ts
 
--- what is told of the queries that are asked behind a verdict is reached
-abbrev pub AreReachedAfter : Parts → Verdict → List (Option Reached) → Type 0
-AreReachedAfter p v rs = AreReachedAsTold p (asked_after v p.queries) rs
+-- what is told of the queries that are asked behind a verdict is true
+abbrev pub AreTrueAfter : Parts → Verdict → List Details → Type 0
+AreTrueAfter p v ts = AreTrueOf p (asked_after v p.queries) ts
 
--- the text of an answer to a problem, as far as it goes, with what is reached of each query
+-- the text of an answer to a problem, as far as it goes, with what is told of each query: that is true, and what was asked for
 pub record IsBegunText (s : Settings) (p : Parts) (text : List ℕ) : Type 0 where
   pub answer : Answer
-  pub reached : List (Option Reached)
+  pub details : List Details
   pub under_way : IsUnderWay s p answer
-  pub told : AreReachedTo p (asked_after answer.verdict p.queries) (length answer.parts) reached
-  pub is : text ≡ begun_text s.style s.digits p answer reached
+  pub told : AreTrueTo p (asked_after answer.verdict p.queries) (length answer.parts) details
+  pub asked : AreToldAsAsked s answer.parts details
+  pub is : text ≡ begun_text s.style s.digits p answer details

@@ -6,6 +6,8 @@ pub mod Clashes
 pub mod Conditions
 pub mod Reached
 pub mod Known
+pub mod Details
+pub mod Unused
 pub mod Fronts
 pub mod Shown
 -- The law of decimals

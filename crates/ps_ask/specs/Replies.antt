@@ -13,8 +13,8 @@ use Rattle.ps_problem.specs.declared.query.Query.{Query}
 use Rattle.ps_problem.specs.Problems.{Parts}
 use Rattle.ps_query.specs.Solutions.{AreShortLines}
 use Rattle.ps_spoken.specs.Objects.{Beside}
-use Rattle.ps_spoken.specs.declared.reached.Reached.{Reached}
-use Rattle.ps_ask.specs.Reached.{IsReachedAsTold}
+use Rattle.ps_spoken.specs.declared.details.Details.{Details}
+use Rattle.ps_ask.specs.Details.{AreToldAsAsked, IsToldAsAsked, IsTrueOf}
 use Rattle.ps_ask.specs.declared.notes.Input.{Input}
 use Rattle.ps_ask.specs.declared.settings.Settings.{Settings}
 use Rattle.ps_ask.specs.declared.status.Status.{Status}
@@ -25,7 +25,7 @@ use Rattle.ps_ask.specs.declared.reply.ReplyError.{ReplyError}
 use Rattle.ps_ask.specs.declared.reply.ReplyError.TheVariants as errors
 use Rattle.ps_ask.specs.Late.{is_late}
 use Rattle.ps_ask.specs.Statuses.{status_after}
-use Rattle.ps_ask.specs.Fronts.{AreReachedTo, AreShownParts, IsShownPart, IsShownVerdict, part_piece, parts_pieces, verdict_piece}
+use Rattle.ps_ask.specs.Fronts.{AreShownParts, AreTrueTo, IsShownPart, IsShownVerdict, part_piece, parts_pieces, verdict_piece}
 use Rattle.ps_ask.specs.Shown.{CountsReads, IsDue, IsSolvedBy, IsText, IsToldFor, Output, last_text, report_of, wanted_report}
 
 -- ---- replies
@@ -71,12 +71,12 @@ IsOf a Nothing = ⊥
 IsOf a (Text b text) = b ≡ a
 IsOf a (Report b) = b ≡ a
 
--- the reply shows the end of this answer to a problem, in the style of the settings, beside what is reached of each query
-pub record IsShownFor (s : Settings) (name : List ℕ) (p : Parts) (a : Answer) (rs : List (Option Reached)) (r : Reply)
+-- the reply shows the end of this answer to a problem, in the style of the settings, beside what is told of each query
+pub record IsShownFor (s : Settings) (name : List ℕ) (p : Parts) (a : Answer) (ts : List Details) (r : Reply)
     : Type 0 where
   pub beside : Beside
   pub told : IsToldFor s name p a beside
-  pub reached_is : beside.reached ≡ rs
+  pub details_is : beside.details ≡ ts
   pub last_is : last_of s.is_timed r ≡ last_text s.style s.is_timed p a beside
   pub answer_is : IsOf a r
 
@@ -130,21 +130,23 @@ pub record IsVerdictPiece (s : Settings) (p : Parts) (text : List ℕ) : Type 0 
   pub shown : IsShownVerdict s p verdict events
   pub is : text ≡ verdict_piece s.style verdict
 
--- the piece of a part that is shown for a query, with what is reached of it
+-- the piece of a part that is shown for a query, with what is told of it
 pub record IsPiece (s : Settings) (p : Parts) (q : Query) (text : List ℕ) : Type 0 where
   pub part : QueryPart
-  pub reached : Option Reached
+  pub details : Details
   pub shown : IsShownPart s p q part
-  pub told : IsReachedAsTold p q reached
-  pub is : text ≡ part_piece s.style s.digits p q part reached
+  pub told : IsTrueOf p q details
+  pub asked : IsToldAsAsked s part details
+  pub is : text ≡ part_piece s.style s.digits p q part details
 
--- the pieces of parts that are shown for the first of these queries, with what is reached of each
+-- the pieces of parts that are shown for the first of these queries, with what is told of each
 pub record ArePiecesFor (s : Settings) (p : Parts) (qs : List Query) (text : List ℕ) : Type 0 where
   pub parts : List QueryPart
-  pub reached : List (Option Reached)
+  pub details : List Details
   pub shown : AreShownParts s p (take (length parts) qs) parts
-  pub told : AreReachedTo p qs (length parts) reached
-  pub is : text ≡ parts_pieces s.style s.digits p parts reached
+  pub told : AreTrueTo p qs (length parts) details
+  pub asked : AreToldAsAsked s parts details
+  pub is : text ≡ parts_pieces s.style s.digits p parts details
 
 -- ---- what is due behind it
 -- behind what was shown of a whole answer to the problem, the reply is its end

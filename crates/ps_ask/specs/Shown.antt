@@ -5,7 +5,6 @@ use Rattle.ps_io.specs.LineText.{lines_bytes}
 use Rattle.ps_io.specs.Causes.{next_count}
 use Rattle.ps_io.specs.Transfer.{Appends, AppendsPrefix}
 use Rattle.ps_io.specs.declared.sink.Sink.{Ghosts}
-use Rattle.ps_io.specs.declared.source.Source as sources
 use Rattle.ps_text.specs.Positions.{Position}
 use Rattle.ps_text.specs.declared.kind.ReadKind.{ReadKind}
 use Rattle.ps_read.specs.Readings.{SpellsWhole, IsUnreadWhole}
@@ -18,6 +17,7 @@ use Rattle.ps_frac.specs.declared.limits.TheConstants.{MOST_DIGITS}
 use Rattle.ps_spoken.specs.declared.clash.Clash.{Clash}
 use Rattle.ps_spoken.specs.Clashes.{clash_text}
 use Rattle.ps_spoken.specs.Objects.{Beside, object}
+use Rattle.ps_spoken.specs.Unused.{unused_text}
 use Rattle.ps_ask.specs.declared.answering.TheConstants.{MOST_PROBLEM}
 use Rattle.ps_ask.specs.declared.settings.Settings.{Settings}
 use Rattle.ps_ask.specs.declared.settings.Style.{Style}
@@ -26,9 +26,11 @@ use Rattle.ps_ask.specs.declared.sinks.Sinks.{Sinks}
 use Rattle.ps_ask.specs.declared.status.Status.{Status}
 use Rattle.ps_ask.specs.declared.status.Status.TheVariants.{Unreadable, ReadFault, WriteFault, ReportFault, NoMemory}
 use Rattle.ps_ask.specs.Clashes.{IsClashAt}
-use Rattle.ps_ask.specs.Fronts.{AreReachedAfter, IsBegunText, IsWhole, begun_text}
+use Rattle.ps_ask.specs.Details.{AreToldAsAsked}
+use Rattle.ps_ask.specs.Fronts.{AreTrueAfter, IsBegunText, IsWhole, begun_text}
 use Rattle.ps_ask.specs.Late.{is_late}
 use Rattle.ps_ask.specs.Statuses.{open_in, status_after, status_number}
+use Rattle.ps_ask.specs.Unused.{unused_for}
 
 -- the limits are those of runs, and decimals have at least one digit and at most the most
 pub record AreSettings (s : Settings) : Type 0 where
@@ -45,9 +47,18 @@ abbrev pub clash_words : Parts → List ℕ → Option Clash → List ℕ
 clash_words p lines (Some c) = clash_text p lines c
 clash_words p lines None = []
 
--- what is shown at the end: which sentences clash, nothing, an object, or a report
+-- on which sentences no bound rests, where that is told
+abbrev pub unused_words : Parts → List ℕ → Option (List ℕ) → List ℕ
+unused_words p lines (Some ns) = unused_text p lines ns
+unused_words p lines None = []
+
+-- both
+abbrev pub end_words : Parts → List ℕ → Option Clash → Option (List ℕ) → List ℕ
+end_words p lines clash unused = clash_words p lines clash ++ unused_words p lines unused
+
+-- what is shown at the end: which sentences clash and on which no bound rests, nothing, an object, or a report
 abbrev pub last_text : Style → Bool → Parts → Answer → Beside → List ℕ
-last_text Words timed p a t = clash_words p t.lines t.clash
+last_text Words timed p a t = end_words p t.lines t.clash t.unused
 last_text Values timed p a t = []
 last_text Exact timed p a t = []
 last_text Json timed p a t = object p a t
@@ -55,7 +66,7 @@ last_text Report timed p a t = report_of timed a
 
 -- an answer as it is shown: what is shown as it goes, and what is shown at the end
 abbrev pub shown_by : Settings → Parts → Answer → Beside → List ℕ
-shown_by s p a t = begun_text s.style s.digits p a t.reached ++ last_text s.style s.is_timed p a t
+shown_by s p a t = begun_text s.style s.digits p a t.details ++ last_text s.style s.is_timed p a t
 
 -- sentences that clash are looked for where they are shown: in words and in an object
 abbrev pub IsClashFor : Style → Settings → Parts → Verdict → Option Clash → Type 0
@@ -64,13 +75,15 @@ IsClashFor Json s p v clash = IsClashAt s p v clash
 IsClashFor other s p v clash = clash ≡ None
 
 -- this goes with an answer to a problem: the digits of the settings, the name of the file, how much is open, the
--- status, and sentences that can't be met together and are each needed for it, where some clash and are shown
+-- status, sentences that can't be met together and are each needed for it, where some clash and are shown, and where it is asked
+-- for, the sentences on which no bound rests
 pub record IsToldFor (s : Settings) (name : List ℕ) (p : Parts) (a : Answer) (t : Beside) : Type 0 where
   pub digits : t.digits ≡ s.digits
   pub file : t.file ≡ name
   pub unfinished : t.unfinished ≡ pos (open_in a)
   pub status : t.status ≡ status_number (status_after s.is_timed a)
   pub clash : IsClashFor s.style s p a.verdict t.clash
+  pub unused : t.unused ≡ unused_for s.style s.tells_support p a.verdict t.details
 
 -- the report beside what is shown, where it is wanted
 abbrev pub wanted_report : Bool → Bool → Answer → List ℕ
@@ -96,14 +109,16 @@ abbrev pub no_output : Output
 no_output = record { text = []; report = []; status = Unreadable }
 
 -- the output shows a whole answer to a problem: it is valid and right, and each part has its certificates or comes of a lawful
--- run, unless something is shown as not finished in time; and each value that is shown as reached of a query is reached by
--- some distribution that meets the sentences
+-- run, unless something is shown as not finished in time; and of each query it is told what was asked for, and that is true: a
+-- value that is shown as reached is reached by some distribution that meets the sentences, a bound holds by the sentences alone
+-- on which it is said to rest, and a distribution that is shown with it reaches it
 pub record IsSolvedBy (s : Settings) (name : List ℕ) (p : Parts) (o : Output) : Type 0 where
   pub answer : Answer
   pub whole : IsWhole s p answer
   pub beside : Beside
   pub told : IsToldFor s name p answer beside
-  pub reached : AreReachedAfter p answer.verdict beside.reached
+  pub details : AreTrueAfter p answer.verdict beside.details
+  pub asked : AreToldAsAsked s answer.parts beside.details
   pub is : o ≡ answer_output s p answer beside
 
 -- due for bytes under a name: an answer to the problem that they spell is shown; or nothing is, where they are no

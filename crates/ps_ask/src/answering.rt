@@ -46,8 +46,8 @@ fn reply_to_problem<O: Sink, W: Company>(
     ensures faults { CountsShown result (O.faults sink.old) (O.faults sink.new) }
 {
     match show_front(alloc, settings, input, problem, sink, watch) {
-        Ok((answer, reached)) => {
-            let told = reached.as_slice();
+        Ok((answer, details)) => {
+            let told = details.as_slice();
             match show_last(alloc, settings, input, problem, answer, told, watch) {
                 Ok(reply) => Ok(reply),
                 Err(NoMemory) => Err(ReplyError::NoMemory),

@@ -2,9 +2,9 @@
 ghost use Rattle.std.specs.Prelude.{◌≡◌, ◌++◌, ◌∷◌, [], IfErr, IfOk, OnOk};
 ghost use Rattle.ps_io.specs.Transfer.{Appends};
 ghost use Rattle.ps_problem.specs.Problems.{HasNodes};
-ghost use Rattle.ps_ask.specs.Reached.{AreReachedAsTold, IsReachedAsTold};
+ghost use Rattle.ps_ask.specs.Details.{AreToldAsAsked, AreTrueOf, IsToldAsAsked, IsTrueOf};
 ghost use Rattle.ps_ask.specs.Shown.{AreSettings};
-ghost use Rattle.ps_ask.specs.Fronts.{AreReachedAfter, AreShownAfter, AreShownParts, IsBegunText};
+ghost use Rattle.ps_ask.specs.Fronts.{AreShownAfter, AreShownParts, AreTrueAfter, IsBegunText};
 ghost use Rattle.ps_ask.specs.Fronts.{IsShownPart};
 ghost use Rattle.ps_ask.specs.Fronts.{IsShownVerdict, IsWhole, begun_of, part_piece, piece_of};
 ghost use Rattle.ps_ask.specs.Fronts.{pieces_of, verdict_piece, verdict_shown};
@@ -15,10 +15,10 @@ ghost use Rattle.ps_ask.specs.Replies.{Adds, ArePieces, Stops, IsCut, IsPiece, I
 
 use crate::company::{Company, ROUNDS};
 use crate::conditions::idle_noted;
+use crate::details::details_of;
 use crate::judged::{judged_part, judged_verdict};
 use crate::notes::{Input, MISSING, warnings_noted};
 use crate::pieces::{part_piece, verdict_piece};
-use crate::reached::reached_of;
 use crate::reply::ReplyError;
 use crate::rounds::{Rounds, settle_query};
 use crate::settings::Settings;
@@ -26,9 +26,10 @@ use crate::sought::Sought;
 use ps_answer::{Answer, Model, Parts, QueryPart, Verdict};
 use ps_engine::Engine;
 use ps_guess::{InTime, Pending, Trials};
+use ps_hints::sentence_lines;
 use ps_io::{List, NoMemory, Sink, write_all};
 use ps_problem::{Problem, Query};
-use ps_spoken::Reached;
+use ps_spoken::Details;
 use ps_table::Trace;
 use std::alloc::Global;
 
@@ -87,34 +88,38 @@ fn show_verdict<O: Sink, W: Company>(
     }
 }
 
-// The part of a query of the problem of trials, of which this is known, with what is reached of it,
+// The part of a query of the problem of trials, of which this is known, with what is told of it,
 // beside a distribution, and its piece.
-#[tactic(auto, using(crate::proofs::ReachedLaws::right_shown))]
+#[tactic(auto, using(crate::proofs::ReachedLaws::right_shown, crate::proofs::DetailLaws::proved_for))]
 fn part_with_piece<W: Company>(
     alloc: Global,
     settings: Settings,
     trials: &Trials<'_>,
     model: &Model,
+    lines: &[u32],
     query: Query,
     pending: Pending,
     timed: &mut InTime<'_, Engine, W>,
-) -> Result<((QueryPart, Option<Reached>), Vec<u8>), NoMemory>
+) -> Result<((QueryPart, Details), Vec<u8>), NoMemory>
     requires settings { AreSettings settings }
     requires model { IsModelFor trials.now model.now }
     requires query { HasNodes trials.now.nodes query.formula query.given query.both }
     requires pending { IsPending settings trials.now query pending }
     ensures judged { IfOk result (λ r. IsShownPart settings trials.now query r.0.0) }
-    ensures reached { IfOk result (λ r. IsReachedAsTold trials.now query r.0.1) }
+    ensures details { IfOk result (λ r. IsTrueOf trials.now query r.0.1) }
+    ensures asked { IfOk result (λ r. IsToldAsAsked settings r.0.0 r.0.1) }
     ensures piece { IfOk result (λ r. r.1.items ≡ piece_of settings trials.now query r.0) }
 {
     let part = judged_part(alloc, settings, trials, query, pending)?;
-    let reached = reached_of(alloc, trials.problem(), query, &part.answer, model)?;
-    let text = part_piece(alloc, settings, trials.problem(), query, &part, &reached)?;
+    let answer = &part.answer;
+    let watch = &mut *timed.watch;
+    let told = details_of(alloc, settings, trials, query, answer, model, lines, watch)?;
+    let text = part_piece(alloc, settings, trials.problem(), query, &part, &told)?;
     timed.watch.clear();
-    Ok(((part, reached), text))
+    Ok(((part, told), text))
 }
 
-// Shows the part of a query of the problem of trials, of which this is known, with what is reached of
+// Shows the part of a query of the problem of trials, of which this is known, with what is told of
 // it, beside a distribution.
 #[tactic(auto, using(crate::proofs::EndLaws::nothing_ended, crate::proofs::EndLaws::part_cut))]
 fn show_part<O: Sink, W: Company>(
@@ -122,23 +127,25 @@ fn show_part<O: Sink, W: Company>(
     settings: Settings,
     trials: &Trials<'_>,
     model: &Model,
+    lines: &[u32],
     query: Query,
     pending: Pending,
     timed: &mut InTime<'_, Engine, W>,
     sink: &mut O,
-) -> Result<(QueryPart, Option<Reached>), ReplyError>
+) -> Result<(QueryPart, Details), ReplyError>
     requires settings { AreSettings settings }
     requires model { IsModelFor trials.now model.now }
     requires query { HasNodes trials.now.nodes query.formula query.given query.both }
     requires pending { IsPending settings trials.now query pending }
     ensures judged { IfOk result (λ r. IsShownPart settings trials.now query r.0) }
-    ensures reached { IfOk result (λ r. IsReachedAsTold trials.now query r.1) }
+    ensures details { IfOk result (λ r. IsTrueOf trials.now query r.1) }
+    ensures asked { IfOk result (λ r. IsToldAsAsked settings r.0 r.1) }
     ensures wrote { IfOk result
         (Adds O.Sink sink.old sink.new (piece_of settings trials.now query)) }
     ensures ended { Stops O.Sink sink.old sink.new (IsPiece settings trials.now query) result }
     ensures faults { CountsShown result (O.faults sink.old) (O.faults sink.new) }
 {
-    match part_with_piece(alloc, settings, trials, model, query, pending, timed) {
+    match part_with_piece(alloc, settings, trials, model, lines, query, pending, timed) {
         Ok((part, text)) => match show_text(sink, &text) {
             Ok(()) => Ok(part),
             Err(error) => Err(error),
@@ -147,42 +154,44 @@ fn show_part<O: Sink, W: Company>(
     }
 }
 
-// Adds a part, and what is reached of its query.
+// Adds a part, and what is told of its query.
 fn add_part(
     parts: &mut Parts,
-    reached: &mut List<Option<Reached>>,
+    details: &mut List<Details>,
     part: QueryPart,
-    told: Option<Reached>,
+    told: Details,
 ) -> Result<(), NoMemory>
     ensures parts { OnOk result (parts.new ≡ parts.old ++ part ∷ []) }
-    ensures reached { OnOk result (reached.new ≡ reached.old ++ told ∷ []) }
+    ensures details { OnOk result (details.new ≡ details.old ++ told ∷ []) }
 {
     parts.push(part)?;
-    reached.push(told)
+    details.push(told)
 }
 
 // Shows the part of each query of the problem of trials, as soon as it and those before it are done,
-// with what is reached of it, beside a distribution.
+// with what is told of it, beside a distribution.
 #[tactic(auto, using(crate::proofs::EndLaws::nothing_ended))]
 fn show_parts<O: Sink, W: Company>(
     alloc: Global,
     settings: Settings,
     trials: &Trials<'_>,
     model: &Model,
+    lines: &[u32],
     timed: &mut InTime<'_, Engine, W>,
     sink: &mut O,
-) -> Result<(Parts, List<Option<Reached>>), ReplyError>
+) -> Result<(Parts, List<Details>), ReplyError>
     requires settings { AreSettings settings }
     requires model { IsModelFor trials.now model.now }
     ensures judged { IfOk result (λ r. AreShownParts settings trials.now trials.now.queries r.0) }
-    ensures reached { IfOk result (λ r. AreReachedAsTold trials.now trials.now.queries r.1) }
+    ensures details { IfOk result (λ r. AreTrueOf trials.now trials.now.queries r.1) }
+    ensures asked { IfOk result (λ r. AreToldAsAsked settings r.0 r.1) }
     ensures wrote { IfOk result
         (Adds O.Sink sink.old sink.new (pieces_of settings trials.now)) }
     ensures ended { Stops O.Sink sink.old sink.new (AreAllPieces settings trials.now) result }
     ensures faults { CountsShown result (O.faults sink.old) (O.faults sink.new) }
 {
     let mut parts = List::new(alloc);
-    let mut reached = List::new(alloc);
+    let mut details = List::new(alloc);
     let queries = trials.problem().queries().as_slice();
     let Ok(mut rounds) = Rounds::new(alloc, queries.len()) else {
         return Err(ReplyError::NoMemory);
@@ -192,32 +201,36 @@ fn show_parts<O: Sink, W: Company>(
         let Ok(pending) = settle_query(alloc, settings, trials, place, &mut rounds, timed) else {
             return Err(ReplyError::NoMemory);
         };
-        match show_part(alloc, settings, trials, model, *query, pending, timed, sink) {
+        match show_part(
+            alloc, settings, trials, model, lines, *query, pending, timed, sink,
+        ) {
             Ok((part, told)) => {
-                if add_part(&mut parts, &mut reached, part, told).is_err() {
+                if add_part(&mut parts, &mut details, part, told).is_err() {
                     return Err(ReplyError::NoMemory);
                 }
             }
             Err(error) => return Err(error),
         }
     }
-    Ok((parts, reached))
+    Ok((parts, details))
 }
 
-// Shows the parts of the queries that are asked behind a verdict, with what is reached of each.
+// Shows the parts of the queries that are asked behind a verdict, with what is told of each.
 #[tactic(auto, using(crate::proofs::StepLaws::nothing_shown, crate::proofs::ReachedLaws::shown_model))]
 fn show_parts_under<O: Sink, W: Company>(
     alloc: Global,
     settings: Settings,
     trials: &Trials<'_>,
     verdict: &Verdict,
+    lines: &[u32],
     timed: &mut InTime<'_, Engine, W>,
     sink: &mut O,
-) -> Result<(Parts, List<Option<Reached>>), ReplyError>
+) -> Result<(Parts, List<Details>), ReplyError>
     requires settings { AreSettings settings }
     requires right { IsRightVerdictFor trials.now verdict.now }
     ensures judged { IfOk result (λ r. AreShownAfter settings trials.now verdict.now r.0) }
-    ensures reached { IfOk result (λ r. AreReachedAfter trials.now verdict.now r.1) }
+    ensures details { IfOk result (λ r. AreTrueAfter trials.now verdict.now r.1) }
+    ensures asked { IfOk result (λ r. AreToldAsAsked settings r.0 r.1) }
     ensures wrote { IfOk result
         (Adds O.Sink sink.old sink.new (pieces_of settings trials.now)) }
     ensures ended { Stops O.Sink sink.old sink.new
@@ -225,22 +238,26 @@ fn show_parts_under<O: Sink, W: Company>(
     ensures faults { CountsShown result (O.faults sink.old) (O.faults sink.new) }
 {
     match verdict {
-        Verdict::Consistent(model) => show_parts(alloc, settings, trials, model, timed, sink),
+        Verdict::Consistent(model) => {
+            show_parts(alloc, settings, trials, model, lines, timed, sink)
+        },
         Verdict::Inconsistent(_) | Verdict::Open(_) => Ok((List::new(alloc), List::new(alloc))),
     }
 }
 
-// Shows an answer to the problem of trials as it goes, with what is reached of each query.
+// Shows an answer to the problem of trials as it goes, with what is told of each query.
 fn show_answer<O: Sink, W: Company>(
     alloc: Global,
     settings: Settings,
     trials: &Trials<'_>,
+    lines: &[u32],
     timed: &mut InTime<'_, Engine, W>,
     sink: &mut O,
-) -> Result<(Answer, List<Option<Reached>>), ReplyError>
+) -> Result<(Answer, List<Details>), ReplyError>
     requires settings { AreSettings settings }
     ensures whole { IfOk result (λ r. IsWhole settings trials.now r.0) }
-    ensures reached { IfOk result (λ r. AreReachedAfter trials.now r.0.verdict r.1) }
+    ensures details { IfOk result (λ r. AreTrueAfter trials.now r.0.verdict r.1) }
+    ensures asked { IfOk result (λ r. AreToldAsAsked settings r.0.parts r.1) }
     ensures wrote { IfOk result
         (Adds O.Sink sink.old sink.new (begun_of settings trials.now)) }
     ensures ended { Stops O.Sink sink.old sink.new (IsBegunText settings trials.now) result }
@@ -251,14 +268,14 @@ fn show_answer<O: Sink, W: Company>(
     let _sound = trials.problem();
     match show_verdict(alloc, settings, trials, timed, sink) {
         Ok((verdict, first)) => {
-            match show_parts_under(alloc, settings, trials, &verdict, timed, sink) {
-                Ok((parts, reached)) => Ok((
+            match show_parts_under(alloc, settings, trials, &verdict, lines, timed, sink) {
+                Ok((parts, details)) => Ok((
                     Answer {
                         verdict,
                         first,
                         parts,
                     },
-                    reached,
+                    details,
                 )),
                 Err(error) => Err(error),
             }
@@ -294,7 +311,15 @@ fn warn_of_conditions<W: Company>(
     }
 }
 
-/// Shows an answer to a problem as it goes, with what is reached of each query, and gives both.
+// The lines on which the sentences of an input begin, where they are told beneath bounds.
+fn lines_told(alloc: Global, settings: Settings, input: Input<'_>) -> Result<Vec<u32>, NoMemory> {
+    if settings.tells_support {
+        return sentence_lines(alloc, input.bytes);
+    }
+    Ok(Vec::new(alloc))
+}
+
+/// Shows an answer to a problem as it goes, with what is told of each query, and gives both.
 #[tactic(auto, using(crate::proofs::EndLaws::nothing_ended))]
 pub fn show_front<O: Sink, W: Company>(
     alloc: Global,
@@ -303,10 +328,11 @@ pub fn show_front<O: Sink, W: Company>(
     problem: &Problem,
     sink: &mut O,
     watch: &mut W,
-) -> Result<(Answer, List<Option<Reached>>), ReplyError>
+) -> Result<(Answer, List<Details>), ReplyError>
     requires settings { AreSettings settings }
     ensures whole { IfOk result (λ r. IsWhole settings problem.now r.0) }
-    ensures reached { IfOk result (λ r. AreReachedAfter problem.now r.0.verdict r.1) }
+    ensures details { IfOk result (λ r. AreTrueAfter problem.now r.0.verdict r.1) }
+    ensures asked { IfOk result (λ r. AreToldAsAsked settings r.0.parts r.1) }
     ensures wrote { IfOk result
         (Adds O.Sink sink.old sink.new (begun_of settings problem.now)) }
     ensures ended { Stops O.Sink sink.old sink.new (IsBegunText settings problem.now) result }
@@ -320,11 +346,14 @@ pub fn show_front<O: Sink, W: Company>(
         return Err(ReplyError::NoMemory);
     };
     engine.pause_every(ROUNDS);
+    let Ok(lines) = lines_told(alloc, settings, input) else {
+        return Err(ReplyError::NoMemory);
+    };
     let mut timed = InTime::new(&mut engine, watch);
-    match show_answer(alloc, settings, &trials, &mut timed, sink) {
-        Ok((answer, reached)) => {
+    match show_answer(alloc, settings, &trials, &lines, &mut timed, sink) {
+        Ok((answer, details)) => {
             warn_of_conditions(alloc, settings, input, &trials, &answer, &mut timed);
-            Ok((answer, reached))
+            Ok((answer, details))
         }
         Err(error) => Err(error),
     }

@@ -13,7 +13,7 @@ use ps_answer::{QueryPart, Verdict};
 use ps_io::NoMemory;
 use ps_problem::{Problem, Query};
 use ps_spoken::{
-    Reached, write_part, write_query_exact, write_query_values, write_verdict, write_verdict_value,
+    Details, write_part, write_query_exact, write_query_values, write_verdict, write_verdict_value,
 };
 use std::alloc::Global;
 
@@ -53,16 +53,16 @@ fn part_words(
     problem: &Problem,
     query: Query,
     part: &QueryPart,
-    reached: &Option<Reached>,
+    told: &Details,
 ) -> Result<Vec<u8>, NoMemory>
     requires some { 0 < digits }
     requires few { digits ≤ MOST_DIGITS }
     requires query { HasNodes problem.now.nodes query.formula query.given query.both }
     ensures { IfOk result
-        (λ v. v.items ≡ part_text digits problem.now query part.now reached.now) }
+        (λ v. v.items ≡ part_text digits problem.now query part.now told.now) }
 {
     let mut text = Vec::new(alloc);
-    write_part(alloc, &mut text, problem, query, part, reached, digits)?;
+    write_part(alloc, &mut text, problem, query, part, told, digits)?;
     Ok(text)
 }
 
@@ -86,22 +86,22 @@ fn part_exact(alloc: Global, part: &QueryPart) -> Result<Vec<u8>, NoMemory>
     Ok(text)
 }
 
-/// The piece of a query's part, with what is reached of it.
+/// The piece of a query's part, with what is told of it.
 pub fn part_piece(
     alloc: Global,
     settings: Settings,
     problem: &Problem,
     query: Query,
     part: &QueryPart,
-    reached: &Option<Reached>,
+    told: &Details,
 ) -> Result<Vec<u8>, NoMemory>
     requires settings { AreSettings settings }
     requires query { HasNodes problem.now.nodes query.formula query.given query.both }
     ensures { IfOk result
-        (λ v. v.items ≡ piece_of settings problem.now query (part.now, reached.now)) }
+        (λ v. v.items ≡ piece_of settings problem.now query (part.now, told.now)) }
 {
     match settings.style {
-        Style::Words => part_words(alloc, settings.digits, problem, query, part, reached),
+        Style::Words => part_words(alloc, settings.digits, problem, query, part, told),
         Style::Values => part_values(alloc, settings.digits, part),
         Style::Exact => part_exact(alloc, part),
         Style::Json | Style::Report => Ok(Vec::new(alloc)),

@@ -26,6 +26,10 @@ pub struct Settings {
     pub digits: u32,
     /// How the answer is shown.
     pub style: Style,
+    /// Whether the sentences are told on which each bound rests.
+    pub tells_support: bool,
+    /// Whether a distribution is told that reaches each bound.
+    pub tells_examples: bool,
     /// Whether its report is written too, apart from what is shown.
     pub reports: bool,
     /// Which warnings are noted.

@@ -5,7 +5,7 @@ ghost use Rattle.ps_spoken.specs.Objects.{facts, object};
 ghost use Rattle.ps_valid.specs.Answers.{IsRightOf};
 ghost use Rattle.ps_ask.specs.declared.settings.Style.TheVariants as style;
 ghost use Rattle.ps_ask.specs.Statuses.{open_in, status_after, status_number};
-ghost use Rattle.ps_ask.specs.Shown.{AreSettings, clash_words};
+ghost use Rattle.ps_ask.specs.Shown.{AreSettings, end_words};
 ghost use Rattle.ps_ask.specs.Replies.{IsShownFor};
 
 use crate::answered::{open_of, status_of};
@@ -14,25 +14,31 @@ use crate::company::Company;
 use crate::notes::{Input, problem_warned};
 use crate::reply::Reply;
 use crate::settings::{Settings, Style};
+use crate::unused::unused_in;
 use ps_answer::Answer;
 use ps_hints::sentence_lines;
-use ps_io::NoMemory;
+use ps_io::{List, NoMemory};
 use ps_problem::Problem;
-use ps_spoken::{Clash, Reached, Told, Warned, write_clash, write_object};
+use ps_spoken::{Clash, Details, Told, Warned, write_clash, write_object, write_unused};
 use std::alloc::Global;
 
-// Which sentences clash, in words, where some do.
-fn clash_text(
+// Which sentences clash, and on which no bound rests, in words, where that is told.
+fn end_text(
     alloc: Global,
     problem: &Problem,
     lines: &[u32],
     clash: &Option<Clash>,
+    unused: &Option<List<u32>>,
 ) -> Result<Vec<u8>, NoMemory>
-    ensures { IfOk result (λ v. v.items ≡ clash_words problem.now lines.now clash.now) }
+    ensures { IfOk result
+        (λ v. v.items ≡ end_words problem.now lines.now clash.now unused.now) }
 {
     let mut text = Vec::new(alloc);
     if let Some(known) = clash {
         write_clash(alloc, &mut text, problem, lines, known)?;
+    }
+    if let Some(known) = unused {
+        write_unused(alloc, &mut text, problem, lines, known.as_slice())?;
     }
     Ok(text)
 }
@@ -60,14 +66,16 @@ fn told_beside<'a>(
     name: &'a str,
     lines: &'a [u32],
     answer: &Answer,
-    reached: &'a [Option<Reached>],
+    details: &'a [Details],
     clash: &'a Option<Clash>,
+    unused: &'a Option<List<u32>>,
     warnings: &'a [Warned],
 ) -> Told<'a>
     ensures digits { result.digits ≡ settings.digits }
     ensures file { result.file.now ≡ name.now }
-    ensures reached { result.reached.now ≡ reached.now }
+    ensures details { result.details.now ≡ details.now }
     ensures clash { result.clash.now ≡ clash.now }
+    ensures unused { result.unused.now ≡ unused.now }
     ensures lines { result.lines.now ≡ lines.now }
     ensures warnings { result.warnings.now ≡ warnings.now }
     ensures unfinished { result.unfinished ≡ pos (open_in answer.now) }
@@ -76,8 +84,9 @@ fn told_beside<'a>(
     Told {
         digits: settings.digits,
         file: name.as_bytes(),
-        reached,
+        details,
         clash,
+        unused,
         lines,
         warnings,
         unfinished: open_of(answer) as i128,
@@ -85,7 +94,7 @@ fn told_beside<'a>(
     }
 }
 
-// The sentences that clash, behind an answer in words.
+// The sentences that clash, or on which no bound rests, behind an answer in words.
 #[tactic(auto, using(crate::proofs::ShownLaws::words_shown))]
 fn in_words<W: Company>(
     alloc: Global,
@@ -93,18 +102,19 @@ fn in_words<W: Company>(
     input: Input<'_>,
     problem: &Problem,
     answer: Answer,
-    reached: &[Option<Reached>],
+    details: &[Details],
     watch: &mut W,
 ) -> Result<Reply, NoMemory>
     requires settings { AreSettings settings }
     requires right { IsRightOf problem.now answer }
     requires words { settings.style ≡ style.Words }
     ensures { IfOk result
-        (IsShownFor settings input.entry.name.now problem.now answer reached.now) }
+        (IsShownFor settings input.entry.name.now problem.now answer details.now) }
 {
     let clash = clash_in(alloc, problem, settings, &answer, watch)?;
     let lines = sentence_lines(alloc, input.bytes)?;
-    let text = clash_text(alloc, problem, &lines, &clash)?;
+    let unused = unused_in(alloc, settings, problem, &answer, details)?;
+    let text = end_text(alloc, problem, &lines, &clash, &unused)?;
     Ok(Reply::Text { answer, text })
 }
 
@@ -116,26 +126,27 @@ fn in_object<W: Company>(
     input: Input<'_>,
     problem: &Problem,
     answer: Answer,
-    reached: &[Option<Reached>],
+    details: &[Details],
     watch: &mut W,
 ) -> Result<Reply, NoMemory>
     requires settings { AreSettings settings }
     requires right { IsRightOf problem.now answer }
     requires json { settings.style ≡ style.Json }
     ensures { IfOk result
-        (IsShownFor settings input.entry.name.now problem.now answer reached.now) }
+        (IsShownFor settings input.entry.name.now problem.now answer details.now) }
 {
     let clash = clash_in(alloc, problem, settings, &answer, watch)?;
     let lines = sentence_lines(alloc, input.bytes)?;
+    let unused = unused_in(alloc, settings, problem, &answer, details)?;
     let warnings = problem_warned(alloc, settings, input, problem)?;
     let told = told_beside(
-        settings, input.name, &lines, &answer, reached, &clash, &warnings,
+        settings, input.name, &lines, &answer, details, &clash, &unused, &warnings,
     );
     let text = object_text(alloc, problem, &answer, &told)?;
     Ok(Reply::Text { answer, text })
 }
 
-/// The reply that shows the end of an answer, beside what is reached of each query.
+/// The reply that shows the end of an answer, beside what is told of each query.
 #[tactic(auto, using(crate::proofs::ShownLaws::values_shown, crate::proofs::ShownLaws::exact_shown, crate::proofs::ShownLaws::report_shown))]
 pub fn show_last<W: Company>(
     alloc: Global,
@@ -143,21 +154,21 @@ pub fn show_last<W: Company>(
     input: Input<'_>,
     problem: &Problem,
     answer: Answer,
-    reached: &[Option<Reached>],
+    details: &[Details],
     watch: &mut W,
 ) -> Result<Reply, NoMemory>
     requires settings { AreSettings settings }
     requires right { IsRightOf problem.now answer }
     ensures { IfOk result
-        (IsShownFor settings input.entry.name.now problem.now answer reached.now) }
+        (IsShownFor settings input.entry.name.now problem.now answer details.now) }
 {
     match settings.style {
-        Style::Words => in_words(alloc, settings, input, problem, answer, reached, watch),
+        Style::Words => in_words(alloc, settings, input, problem, answer, details, watch),
         Style::Values | Style::Exact => Ok(Reply::Text {
             answer,
             text: Vec::new(alloc),
         }),
-        Style::Json => in_object(alloc, settings, input, problem, answer, reached, watch),
+        Style::Json => in_object(alloc, settings, input, problem, answer, details, watch),
         Style::Report => Ok(Reply::Report(answer)),
     }
 }

@@ -4,3 +4,5 @@ pub mod Sides
 pub mod Values
 pub mod ExactLines
 pub mod Listed
+pub mod Beneath
+pub mod Steps

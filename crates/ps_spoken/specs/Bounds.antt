@@ -4,11 +4,15 @@ use Rattle.std.specs.declared.cmp.Ordering.{Ordering}
 use Rattle.std.specs.declared.cmp.Ordering.TheVariants.{Less, Equal, Greater}
 use Rattle.ps_meaning.specs.Rational.{Rational}
 use Rattle.ps_meaning.specs.Order.{order_of}
+use Rattle.ps_problem.specs.Problems.{Parts}
 use Rattle.ps_answer.specs.declared.answer.Cause.{Cause}
 use Rattle.ps_answer.specs.declared.answer.SideAnswer.{SideAnswer}
 use Rattle.ps_answer.specs.declared.answer.SideAnswer.TheVariants.{Bound, Open}
 use Rattle.ps_spoken.specs.Numbers.{fraction_text, low_text, high_text}
+use Rattle.ps_spoken.specs.declared.details.Details.{Details}
+use Rattle.ps_spoken.specs.declared.details.SideDetails.{SideDetails}
 use Rattle.ps_spoken.specs.declared.reached.Reached.{Reached}
+use Rattle.ps_spoken.specs.JsonDetails.{beneath_members}
 use Rattle.ps_spoken.specs.Spoken.{cause_text}
 
 -- the exact value of a bound, up to its decimal
@@ -37,15 +41,19 @@ open_lower digits c r = stopped_object c ++ (codes "0\",\"reached\":" ++ (least_
 unfoldable pub open_upper : ℕ → Cause → Option Reached → List ℕ
 open_upper digits c r = stopped_object c ++ (codes "1\",\"reached\":" ++ (greatest_object digits r ++ codes "}"))
 
+-- what stands behind a bound's decimal: what is told of it
+unfoldable pub end_text : Parts → SideDetails → List ℕ
+end_text p t = codes "\",\"why\":null" ++ (beneath_members p t ++ codes "}")
+
 -- a lower bound: its exact value, and its decimal rounded down
-unfoldable pub lower_object : ℕ → SideAnswer → Option Reached → List ℕ
-lower_object digits (Bound x m d) r = exact_text x ++ (low_text digits x ++ codes "\",\"why\":null}")
-lower_object digits (Open c) r = open_lower digits c r
+unfoldable pub lower_object : ℕ → Parts → SideAnswer → Details → List ℕ
+lower_object digits p (Bound x m d) t = exact_text x ++ (low_text digits x ++ end_text p t.lower)
+lower_object digits p (Open c) t = open_lower digits c t.reached
 
 -- an upper bound: its exact value, and its decimal rounded up
-unfoldable pub upper_object : ℕ → SideAnswer → Option Reached → List ℕ
-upper_object digits (Bound x m d) r = exact_text x ++ (high_text digits x ++ codes "\",\"why\":null}")
-upper_object digits (Open c) r = open_upper digits c r
+unfoldable pub upper_object : ℕ → Parts → SideAnswer → Details → List ℕ
+upper_object digits p (Bound x m d) t = exact_text x ++ (high_text digits x ++ end_text p t.upper)
+upper_object digits p (Open c) t = open_upper digits c t.reached
 
 -- whether two bounds in this order are one value
 abbrev pub ordered_status : Ordering → List ℕ
@@ -60,14 +68,14 @@ status_text (Bound x m d) (Open c) = codes "bounds"
 status_text (Open c) upper = codes "bounds"
 
 -- both sides of a query
-unfoldable pub sides_members : ℕ → SideAnswer → SideAnswer → Option Reached → List ℕ
-sides_members digits lower upper r =
-    lower_object digits lower r ++ (codes ",\"upper\":" ++ (upper_object digits upper r ++ codes "}"))
+unfoldable pub both_sides : ℕ → Parts → SideAnswer → SideAnswer → Details → List ℕ
+both_sides digits p lower upper t =
+    lower_object digits p lower t ++ (codes ",\"upper\":" ++ (upper_object digits p upper t ++ codes "}"))
 
 -- the members of a query with bounds, from its status on
-abbrev pub bounds_members : ℕ → SideAnswer → SideAnswer → Option Reached → List ℕ
-bounds_members digits lower upper r = status_text lower upper
-    ++ (codes "\",\"why\":null,\"lower\":" ++ sides_members digits lower upper r)
+abbrev pub two_bounds : ℕ → Parts → SideAnswer → SideAnswer → Details → List ℕ
+two_bounds digits p lower upper t = status_text lower upper
+    ++ (codes "\",\"why\":null,\"lower\":" ++ both_sides digits p lower upper t)
 
 -- both sides of a query that is open
 unfoldable pub open_sides : ℕ → Cause → Option Reached → List ℕ

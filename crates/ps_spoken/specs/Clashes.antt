@@ -1,31 +1,16 @@
 -- What is written of sentences that clash.
-use Rattle.std.specs.Prelude.{ℕ, ◌-◌, ◌==◌, pos, Bool, true, false, if◌then◌else◌, List, [], ◌∷◌, ◌++◌, codes, length}
-use Rattle.std.specs.Prelude.{Option, Some, None, slice_get, get_or}
+use Rattle.std.specs.Prelude.{ℕ, ◌==◌, pos, Bool, true, false, if◌then◌else◌, List, [], ◌∷◌, ◌++◌, codes, length}
 use Rattle.std.specs.List.{list_all}
 use Rattle.std.specs.Fmt.{signed_decimal}
-use Rattle.ps_problem.specs.declared.sentence.Sentence.{Sentence}
 use Rattle.ps_problem.specs.Problems.{Parts}
-use Rattle.ps_canonical.specs.Lines.{statement_text}
 use Rattle.ps_answer.specs.declared.answer.Verdict.{Verdict}
 use Rattle.ps_answer.specs.declared.answer.Verdict.TheVariants as verdict
 use Rattle.ps_answer.specs.declared.answer.Verdict.TheVariants.{Consistent, Inconsistent}
 use Rattle.ps_spoken.specs.declared.clash.Clash.{Clash}
 use Rattle.ps_spoken.specs.declared.clash.Clash.TheVariants.{Irreducible, Open}
 use Rattle.ps_spoken.specs.declared.clash.Clashing.{Clashing}
+use Rattle.ps_spoken.specs.Sentences.{line_at, sentence_text}
 use Rattle.ps_spoken.specs.Spoken.{cause_text}
-
--- a sentence, where there is one
-abbrev pub stated_text : Parts → Option Sentence → List ℕ
-stated_text p (Some s) = statement_text p s
-stated_text p None = []
-
--- the sentence of a number from 1
-abbrev pub sentence_text : Parts → ℕ → List ℕ
-sentence_text p n = stated_text p (slice_get p.sentences (n - 1))
-
--- the line on which the sentence of a number begins, or 0
-abbrev pub line_at : List ℕ → ℕ → ℕ
-line_at lines n = get_or lines (n - 1) 0
 
 -- a sentence with its number and its line
 unfoldable pub clashing_text : Parts → List ℕ → Clashing → List ℕ

@@ -9,7 +9,7 @@ use Rattle.ps_spoken.specs.declared.clash.Clash.{Clash}
 use Rattle.ps_spoken.specs.declared.clash.Clashing.{Clashing}
 use Rattle.ps_spoken.specs.declared.clash.Clash.TheVariants.{Irreducible, Open}
 use Rattle.ps_spoken.specs.Spoken.{cause_text}
-use Rattle.ps_spoken.specs.Clashes.{line_at, sentence_text}
+use Rattle.ps_spoken.specs.Sentences.{line_at, sentence_text}
 use Rattle.ps_spoken.specs.Listings.{comma_before, texts_of}
 
 -- the number of a sentence, and its line

@@ -9,7 +9,8 @@ use Rattle.ps_answer.specs.declared.answer.Verdict.TheVariants.{Consistent, Inco
 use Rattle.ps_spoken.specs.declared.clash.Clash.{Clash}
 use Rattle.ps_spoken.specs.Spoken.{cause_text}
 use Rattle.ps_spoken.specs.declared.object.Told.{Told}
-use Rattle.ps_spoken.specs.declared.reached.Reached.{Reached}
+use Rattle.ps_spoken.specs.declared.details.Details.{Details}
+use Rattle.ps_spoken.specs.Unused.{unused_member}
 use Rattle.ps_spoken.specs.JsonClashes.{clash_member}
 use Rattle.ps_spoken.specs.Counts.{counts_object}
 use Rattle.ps_spoken.specs.Queries.{queries_text}
@@ -17,13 +18,14 @@ use Rattle.ps_spoken.specs.Strings.{string_text}
 use Rattle.ps_spoken.specs.Warned.{warned_member}
 use Rattle.ps_spoken.specs.declared.warned.Warned.{Warned}
 
--- what is told beside an answer: how many digits decimals have, the file's name, what is reached of each query, which
--- sentences clash, the lines of sentences, warnings about the problem, how much is open, and the status
+-- what is told beside an answer: how many digits decimals have, the file's name, what is told of each query, which sentences
+-- clash, on which no bound rests, the lines of sentences, warnings about the problem, how much is open, and the status
 pub record Beside : Type 0 where
   pub digits : ℕ
   pub file : List ℕ
-  pub reached : List (Option Reached)
+  pub details : List Details
   pub clash : Option Clash
+  pub unused : Option (List ℕ)
   pub lines : List ℕ
   pub warnings : List Warned
   pub unfinished : ℤ
@@ -34,8 +36,9 @@ abbrev pub facts : Told → Beside
 facts t = record {
   digits = t.digits;
   file = t.file.now;
-  reached = t.reached.now;
+  details = t.details.now;
   clash = t.clash.now;
+  unused = t.unused.now;
   lines = t.lines.now;
   warnings = t.warnings.now;
   unfinished = t.unfinished;
@@ -60,11 +63,12 @@ status_member status = codes ",\"status\":" ++ (signed_decimal (pos status) ++ c
 unfoldable pub end_text : Parts → Beside → List ℕ
 end_text p t =
     codes "],\"clash\":" ++ (clash_member p t.lines t.clash
+    ++ (unused_member p t.lines t.unused
     ++ (codes ",\"counts\":" ++ (counts_object p t.unfinished
-    ++ (warned_member t.warnings ++ status_member t.status))))
+    ++ (warned_member t.warnings ++ status_member t.status)))))
 
 -- the object of an answer to a problem, on one line
 unfoldable pub object : Parts → Answer → Beside → List ℕ
 object p a t =
     codes "{\"file\":" ++ (string_text t.file
-    ++ (verdict_members a.verdict ++ (codes ",\"queries\":[" ++ (queries_text t.digits p a.parts t.reached ++ end_text p t))))
+    ++ (verdict_members a.verdict ++ (codes ",\"queries\":[" ++ (queries_text t.digits p a.parts t.details ++ end_text p t))))

@@ -1,10 +1,6 @@
 -- What is written of an answer for people.
 use Rattle.std.specs.Prelude.{ℕ, pos, ◌==◌, if◌then◌else◌, List, [], ◌∷◌, ◌++◌, codes, Option}
 use Rattle.std.specs.Fmt.{signed_decimal}
-use Rattle.std.specs.declared.cmp.Ordering.{Ordering}
-use Rattle.std.specs.declared.cmp.Ordering.TheVariants.{Less, Equal, Greater}
-use Rattle.ps_meaning.specs.Rational.{Rational}
-use Rattle.ps_meaning.specs.Order.{order_of}
 use Rattle.ps_problem.specs.declared.query.Query.{Query}
 use Rattle.ps_problem.specs.Problems.{Parts}
 use Rattle.ps_canonical.specs.Lines.{probability_text}
@@ -19,9 +15,11 @@ use Rattle.ps_answer.specs.declared.answer.QueryAnswer.TheVariants as query
 use Rattle.ps_answer.specs.declared.answer.QueryPart.{QueryPart}
 use Rattle.ps_answer.specs.declared.answer.Answer.{Answer}
 use Rattle.ps_spoken.specs.declared.cause.TheConstants.{OUT_OF_TIME}
-use Rattle.ps_spoken.specs.Numbers.{fraction_text, low_text, high_text}
+use Rattle.ps_spoken.specs.Between.{between_text, least_text, most_text}
 use Rattle.ps_spoken.specs.declared.reached.Reached.{Reached}
 use Rattle.ps_spoken.specs.Reached.{lower_between, upper_between}
+use Rattle.ps_spoken.specs.declared.details.Details.{Details}
+use Rattle.ps_spoken.specs.Details.{beneath_text}
 
 -- a limit between words
 abbrev pub limit_text : List ℕ → ℕ → List ℕ → List ℕ
@@ -43,43 +41,18 @@ cause_text (Conflicts limit goal steps) =
     limit_text (codes "a search stopped at the limit of ") limit (codes " conflicts; allow more by --conflicts")
 cause_text (Wide at) = codes "a number needs more than 127 bits; values of fewer digits may help"
 
--- the decimals from a lower bound to an upper one
-abbrev pub decimals_text : ℕ → Rational → Rational → List ℕ
-decimals_text digits x y = codes " (" ++ (low_text digits x ++ (codes " to " ++ (high_text digits y ++ codes ")\n")))
-
--- the one value that both bounds are
-abbrev pub one_value_text : ℕ → Rational → Rational → List ℕ
-one_value_text digits x y = codes "  one value: " ++ (fraction_text x ++ decimals_text digits x y)
-
--- two bounds that differ
-abbrev pub two_values_text : ℕ → Rational → Rational → List ℕ
-two_values_text digits x y = codes "  between "
-    ++ (fraction_text x ++ (codes " and " ++ (fraction_text y ++ decimals_text digits x y)))
-
--- one value where the bounds are equal, else both of them
-abbrev pub ordered_text : Ordering → ℕ → Rational → Rational → List ℕ
-ordered_text Equal digits x y = one_value_text digits x y
-ordered_text Less digits x y = two_values_text digits x y
-ordered_text Greater digits x y = two_values_text digits x y
-
--- both bounds of a query
-abbrev pub between_text : ℕ → Rational → Rational → List ℕ
-between_text digits x y = ordered_text (order_of x y) digits x y
-
 -- what stopped a side, behind between which numbers it lies
 abbrev pub stopped_text : Cause → List ℕ
 stopped_text c = codes ": " ++ (cause_text c ++ codes "\n")
 
 -- the lower side of a query: its bound, or between which numbers it lies, and what stopped it
 abbrev pub lower_text : ℕ → SideAnswer → Option Reached → List ℕ
-lower_text digits (side.Bound x m d) r = codes "  at least "
-    ++ (fraction_text x ++ (codes " (" ++ (low_text digits x ++ codes ")\n")))
+lower_text digits (side.Bound x m d) r = least_text digits x
 lower_text digits (side.Open c) r = codes "  " ++ (lower_between digits r ++ stopped_text c)
 
 -- the upper side of a query: its bound, or between which numbers it lies, and what stopped it
 abbrev pub upper_text : ℕ → SideAnswer → Option Reached → List ℕ
-upper_text digits (side.Bound x m d) r = codes "  at most "
-    ++ (fraction_text x ++ (codes " (" ++ (high_text digits x ++ codes ")\n")))
+upper_text digits (side.Bound x m d) r = most_text digits x
 upper_text digits (side.Open c) r = codes "  " ++ (upper_between digits r ++ stopped_text c)
 
 -- each side of a query
@@ -102,16 +75,17 @@ answer_text digits (query.Bounds lower lower_trace upper upper_trace) r = bounds
 answer_text digits (query.Impossible d) r = codes "  impossible: the sentences give the condition probability 0\n"
 answer_text digits (query.Open c) r = codes "  open: " ++ (cause_text c ++ (codes "\n" ++ between_both digits r))
 
--- a query by its own text, and the answer to it
-abbrev pub part_text : ℕ → Parts → Query → QueryPart → Option Reached → List ℕ
-part_text digits p q part r = probability_text p q.formula q.given ++ (codes "\n" ++ answer_text digits part.answer r)
+-- a query by its own text, the answer to it, and what is told of it
+abbrev pub part_text : ℕ → Parts → Query → QueryPart → Details → List ℕ
+part_text digits p q part t = probability_text p q.formula q.given
+    ++ (codes "\n" ++ (answer_text digits part.answer t.reached ++ beneath_text digits p t))
 
--- the queries, each with the answer to it and what is reached of it, as far as all three lists go
-abbrev pub parts_text : ℕ → Parts → List Query → List QueryPart → List (Option Reached) → List ℕ
-parts_text digits p [] parts rs = []
-parts_text digits p (q ∷ qs) [] rs = []
+-- the queries, each with the answer to it and what is told of it, as far as all three lists go
+abbrev pub parts_text : ℕ → Parts → List Query → List QueryPart → List Details → List ℕ
+parts_text digits p [] parts ts = []
+parts_text digits p (q ∷ qs) [] ts = []
 parts_text digits p (q ∷ qs) (part ∷ parts) [] = []
-parts_text digits p (q ∷ qs) (part ∷ parts) (r ∷ rs) = part_text digits p q part r ++ parts_text digits p qs parts rs
+parts_text digits p (q ∷ qs) (part ∷ parts) (t ∷ ts) = part_text digits p q part t ++ parts_text digits p qs parts ts
 
 -- the verdict
 abbrev pub verdict_text : Verdict → List ℕ
@@ -119,6 +93,6 @@ verdict_text (Consistent m) = codes "consistent: some distribution meets all sen
 verdict_text (Inconsistent d) = codes "inconsistent: no distribution meets all sentences\n"
 verdict_text (Open c) = codes "open: whether a distribution meets all sentences isn't known; " ++ (cause_text c ++ codes "\n")
 
--- what is written of an answer to a problem: the verdict, and each query with the answer to it and what is reached of it
-unfoldable pub spoken : ℕ → Parts → Answer → List (Option Reached) → List ℕ
-spoken digits p a rs = verdict_text a.verdict ++ parts_text digits p p.queries a.parts rs
+-- what is written of an answer to a problem: the verdict, and each query with the answer to it and what is told of it
+unfoldable pub spoken : ℕ → Parts → Answer → List Details → List ℕ
+spoken digits p a ts = verdict_text a.verdict ++ parts_text digits p p.queries a.parts ts

@@ -2,91 +2,16 @@
 ghost use Rattle.std.specs.Prelude.{◌<◌, ◌≤◌, OnOk};
 ghost use Rattle.ps_canonical.specs.Lines.{Adds};
 ghost use Rattle.ps_frac.specs.declared.limits.TheConstants.{MOST_DIGITS};
-ghost use Rattle.ps_spoken.specs.Numbers.{Puts, Says};
-ghost use Rattle.ps_spoken.specs.Spoken.{between_text, lower_text, upper_text};
-ghost use Rattle.ps_spoken.specs.Spoken.{bounds_text, decimals_text, stopped_text};
-ghost use Rattle.ps_spoken.specs.Spoken.{one_value_text, sides_text, two_values_text};
+ghost use Rattle.ps_spoken.specs.Numbers.{Puts};
+ghost use Rattle.ps_spoken.specs.Spoken.{bounds_text, lower_text, sides_text, stopped_text};
+ghost use Rattle.ps_spoken.specs.Spoken.{upper_text};
 
+use crate::between::{write_between, write_least, write_most};
 use crate::cause::write_cause;
-use crate::numbers::{append, fraction, high, low};
+use crate::numbers::append;
 use crate::reached::{Reached, write_lower_between, write_upper_between};
 use ps_answer::{Cause, SideAnswer};
-use ps_frac::Fraction;
 use ps_io::NoMemory;
-use std::cmp::Ordering;
-
-// Writes the decimals of both bounds, from the lower one rounded down to the upper one rounded up.
-fn decimals(
-    out: &mut Vec<u8>,
-    lower: &Fraction,
-    upper: &Fraction,
-    digits: u32,
-) -> Result<(), NoMemory>
-    requires some { 0 < digits }
-    requires few { digits ≤ MOST_DIGITS }
-    ensures { Says result out.old.items out.new.items
-        (decimals_text digits lower.now upper.now) }
-{
-    append(out, b" (")?;
-    low(out, lower, digits)?;
-    append(out, b" to ")?;
-    high(out, upper, digits)?;
-    append(out, b")\n")
-}
-
-// Writes the one value that both bounds are.
-fn one_value(
-    out: &mut Vec<u8>,
-    lower: &Fraction,
-    upper: &Fraction,
-    digits: u32,
-) -> Result<(), NoMemory>
-    requires some { 0 < digits }
-    requires few { digits ≤ MOST_DIGITS }
-    ensures { Says result out.old.items out.new.items
-        (one_value_text digits lower.now upper.now) }
-{
-    append(out, b"  one value: ")?;
-    fraction(out, lower)?;
-    decimals(out, lower, upper, digits)
-}
-
-// Writes two bounds that differ.
-fn two_values(
-    out: &mut Vec<u8>,
-    lower: &Fraction,
-    upper: &Fraction,
-    digits: u32,
-) -> Result<(), NoMemory>
-    requires some { 0 < digits }
-    requires few { digits ≤ MOST_DIGITS }
-    ensures { Says result out.old.items out.new.items
-        (two_values_text digits lower.now upper.now) }
-{
-    append(out, b"  between ")?;
-    fraction(out, lower)?;
-    append(out, b" and ")?;
-    fraction(out, upper)?;
-    decimals(out, lower, upper, digits)
-}
-
-// Writes both bounds, or the one value that they are.
-fn between(
-    out: &mut Vec<u8>,
-    lower: &Fraction,
-    upper: &Fraction,
-    digits: u32,
-) -> Result<(), NoMemory>
-    requires some { 0 < digits }
-    requires few { digits ≤ MOST_DIGITS }
-    ensures { OnOk result (Adds out.old.items out.new.items
-        (between_text digits lower.now upper.now)) }
-{
-    match lower.cmp(upper) {
-        Ordering::Equal => one_value(out, lower, upper, digits),
-        Ordering::Less | Ordering::Greater => two_values(out, lower, upper, digits),
-    }
-}
 
 // Writes what stopped a side.
 fn write_stop(out: &mut Vec<u8>, cause: &Cause) -> Result<(), NoMemory>
@@ -109,13 +34,7 @@ fn lower_side(
     ensures { Puts result out.old out.new (lower_text digits side.now reached.now) }
 {
     match side {
-        SideAnswer::Bound { value, .. } => {
-            append(out, b"  at least ")?;
-            fraction(out, value)?;
-            append(out, b" (")?;
-            low(out, value, digits)?;
-            append(out, b")\n")
-        }
+        SideAnswer::Bound { value, .. } => write_least(out, value, digits),
         SideAnswer::Open(cause) => {
             append(out, b"  ")?;
             write_lower_between(out, reached, digits)?;
@@ -136,13 +55,7 @@ fn upper_side(
     ensures { Puts result out.old out.new (upper_text digits side.now reached.now) }
 {
     match side {
-        SideAnswer::Bound { value, .. } => {
-            append(out, b"  at most ")?;
-            fraction(out, value)?;
-            append(out, b" (")?;
-            high(out, value, digits)?;
-            append(out, b")\n")
-        }
+        SideAnswer::Bound { value, .. } => write_most(out, value, digits),
         SideAnswer::Open(cause) => {
             append(out, b"  ")?;
             write_upper_between(out, reached, digits)?;
@@ -185,7 +98,7 @@ pub fn write_bounds(
         SideAnswer::Open(_) => sides(out, lower, upper, reached, digits),
         SideAnswer::Bound { value: least, .. } => match upper {
             SideAnswer::Open(_) => sides(out, lower, upper, reached, digits),
-            SideAnswer::Bound { value: most, .. } => between(out, least, most, digits),
+            SideAnswer::Bound { value: most, .. } => write_between(out, least, most, digits),
         },
     }
 }

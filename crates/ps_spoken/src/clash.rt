@@ -2,7 +2,8 @@
 ghost use Rattle.std.specs.Prelude.{◌≡◌};
 ghost use Rattle.ps_spoken.specs.Numbers.{Says};
 ghost use Rattle.ps_spoken.specs.Clashes.{clash_text, clash_texts, clashing_text};
-ghost use Rattle.ps_spoken.specs.Clashes.{core_text, heading_text, line_at, sentence_text};
+ghost use Rattle.ps_spoken.specs.Clashes.{core_text, heading_text};
+ghost use Rattle.ps_spoken.specs.Sentences.{line_at, sentence_text};
 
 use crate::cause::write_cause;
 use crate::numbers::{append, number};

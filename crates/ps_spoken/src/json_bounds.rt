@@ -2,17 +2,21 @@
 ghost use Rattle.std.specs.Prelude.{◌<◌, ◌≤◌};
 ghost use Rattle.ps_spoken.specs.Numbers.{Puts, Says};
 ghost use Rattle.ps_frac.specs.declared.limits.TheConstants.{MOST_DIGITS};
-ghost use Rattle.ps_spoken.specs.Bounds.{bounds_members, exact_text, lower_object};
+ghost use Rattle.ps_spoken.specs.Bounds.{two_bounds, end_text, exact_text, lower_object};
 ghost use Rattle.ps_spoken.specs.Bounds.{greatest_object, least_object, open_lower, open_members};
-ghost use Rattle.ps_spoken.specs.Bounds.{open_sides, open_upper, sides_members};
+ghost use Rattle.ps_spoken.specs.Bounds.{open_sides, open_upper, both_sides};
 ghost use Rattle.ps_spoken.specs.Bounds.{status_text, stopped_object, upper_object};
 
 use crate::cause::write_cause;
+use crate::details::{Details, SideDetails};
+use crate::json_details::write_beneath;
 use crate::numbers::{append, fraction, high, low};
 use crate::reached::Reached;
 use ps_answer::{Cause, SideAnswer};
 use ps_frac::Fraction;
 use ps_io::NoMemory;
+use ps_problem::Problem;
+use std::alloc::Global;
 use std::cmp::Ordering;
 
 // Writes the exact value of a bound.
@@ -107,49 +111,68 @@ fn write_open_upper(
     append(out, b"}")
 }
 
+// Writes what stands behind a bound's decimal.
+#[tactic(auto, unfolding(crate::specs::Bounds::end_text))]
+fn write_end(
+    alloc: Global,
+    out: &mut Vec<u8>,
+    problem: &Problem,
+    told: &SideDetails,
+) -> Result<(), NoMemory>
+    ensures { Says result out.old.items out.new.items (end_text problem.now told.now) }
+{
+    append(out, b"\",\"why\":null")?;
+    write_beneath(alloc, out, problem, told)?;
+    append(out, b"}")
+}
+
 // Writes the object of a lower bound.
 #[tactic(auto, unfolding(crate::specs::Bounds::lower_object))]
 fn write_lower(
+    alloc: Global,
     out: &mut Vec<u8>,
+    problem: &Problem,
     side: &SideAnswer,
-    reached: &Option<Reached>,
+    told: &Details,
     digits: u32,
 ) -> Result<(), NoMemory>
     requires some { 0 < digits }
     requires few { digits ≤ MOST_DIGITS }
     ensures { Puts result out.old out.new
-        (lower_object digits side.now reached.now) }
+        (lower_object digits problem.now side.now told.now) }
 {
     match side {
         SideAnswer::Bound { value, .. } => {
             write_exact(out, value)?;
             low(out, value, digits)?;
-            append(out, b"\",\"why\":null}")
+            write_end(alloc, out, problem, &told.lower)
         }
-        SideAnswer::Open(cause) => write_open_lower(out, cause, reached, digits),
+        SideAnswer::Open(cause) => write_open_lower(out, cause, &told.reached, digits),
     }
 }
 
 // Writes the object of an upper bound.
 #[tactic(auto, unfolding(crate::specs::Bounds::upper_object))]
 fn write_upper(
+    alloc: Global,
     out: &mut Vec<u8>,
+    problem: &Problem,
     side: &SideAnswer,
-    reached: &Option<Reached>,
+    told: &Details,
     digits: u32,
 ) -> Result<(), NoMemory>
     requires some { 0 < digits }
     requires few { digits ≤ MOST_DIGITS }
     ensures { Puts result out.old out.new
-        (upper_object digits side.now reached.now) }
+        (upper_object digits problem.now side.now told.now) }
 {
     match side {
         SideAnswer::Bound { value, .. } => {
             write_exact(out, value)?;
             high(out, value, digits)?;
-            append(out, b"\",\"why\":null}")
+            write_end(alloc, out, problem, &told.upper)
         }
-        SideAnswer::Open(cause) => write_open_upper(out, cause, reached, digits),
+        SideAnswer::Open(cause) => write_open_upper(out, cause, &told.reached, digits),
     }
 }
 
@@ -170,41 +193,45 @@ fn write_status(out: &mut Vec<u8>, lower: &SideAnswer, upper: &SideAnswer) -> Re
 }
 
 // Writes both sides of a query.
-#[tactic(auto, unfolding(crate::specs::Bounds::sides_members))]
+#[tactic(auto, unfolding(crate::specs::Bounds::both_sides))]
 fn write_sides(
+    alloc: Global,
     out: &mut Vec<u8>,
+    problem: &Problem,
     lower: &SideAnswer,
     upper: &SideAnswer,
-    reached: &Option<Reached>,
+    told: &Details,
     digits: u32,
 ) -> Result<(), NoMemory>
     requires some { 0 < digits }
     requires few { digits ≤ MOST_DIGITS }
     ensures { Puts result out.old out.new
-        (sides_members digits lower.now upper.now reached.now) }
+        (both_sides digits problem.now lower.now upper.now told.now) }
 {
-    write_lower(out, lower, reached, digits)?;
+    write_lower(alloc, out, problem, lower, told, digits)?;
     append(out, b",\"upper\":")?;
-    write_upper(out, upper, reached, digits)?;
+    write_upper(alloc, out, problem, upper, told, digits)?;
     append(out, b"}")
 }
 
 /// Writes the members of a query with bounds, from its status on.
 pub fn write_bounds(
+    alloc: Global,
     out: &mut Vec<u8>,
+    problem: &Problem,
     lower: &SideAnswer,
     upper: &SideAnswer,
-    reached: &Option<Reached>,
+    told: &Details,
     digits: u32,
 ) -> Result<(), NoMemory>
     requires some { 0 < digits }
     requires few { digits ≤ MOST_DIGITS }
     ensures { Puts result out.old out.new
-        (bounds_members digits lower.now upper.now reached.now) }
+        (two_bounds digits problem.now lower.now upper.now told.now) }
 {
     write_status(out, lower, upper)?;
     append(out, b"\",\"why\":null,\"lower\":")?;
-    write_sides(out, lower, upper, reached, digits)
+    write_sides(alloc, out, problem, lower, upper, told, digits)
 }
 
 // Writes both sides of a query that is open.

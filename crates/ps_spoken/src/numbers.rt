@@ -1,12 +1,22 @@
 //! Numbers as they are written for people.
-ghost use Rattle.std.specs.Prelude.{◌<◌, ◌≤◌, OnOk};
+ghost use Rattle.std.specs.Prelude.{◌≡◌, ◌<◌, ◌≤◌, OnOk};
 ghost use Rattle.std.specs.Fmt.{signed_decimal};
 ghost use Rattle.ps_canonical.specs.Lines.{Adds};
 ghost use Rattle.ps_frac.specs.declared.limits.TheConstants.{MOST_DIGITS};
-ghost use Rattle.ps_spoken.specs.Numbers.{fraction_text, low_text, high_text};
+ghost use Rattle.ps_spoken.specs.Numbers.{fraction_text, is_short, low_text, high_text};
 
 use ps_frac::{Decimal, Fraction, has_decimals};
 use ps_io::NoMemory;
+
+/// A fraction whose denominator is greater is long: its decimals say more than its numbers.
+pub const LONG_DENOMINATOR: i128 = 1_000_000;
+
+/// Whether a fraction is short.
+pub(crate) fn is_short(value: &Fraction) -> bool
+    ensures { result ≡ is_short value.now }
+{
+    value.denominator() <= LONG_DENOMINATOR
+}
 
 /// Writes bytes.
 pub(crate) fn append(out: &mut Vec<u8>, bytes: &[u8]) -> Result<(), NoMemory>

@@ -8,14 +8,15 @@ ghost use Rattle.ps_spoken.specs.Objects.{status_member, verdict_members};
 use crate::cause::write_cause;
 use crate::clash::Clash;
 use crate::counts::write_counts;
+use crate::details::Details;
 use crate::json_clash::write_clash;
 use crate::numbers::{append, number};
 use crate::queries::write_queries;
-use crate::reached::Reached;
 use crate::strings::write_string;
+use crate::unused::write_unused_member;
 use crate::warned::{Warned, write_warnings};
 use ps_answer::{Answer, Cause, Verdict};
-use ps_io::NoMemory;
+use ps_io::{List, NoMemory};
 use ps_problem::Problem;
 use std::alloc::Global;
 
@@ -26,10 +27,12 @@ pub struct Told<'a> {
     pub digits: u32,
     /// The name of the problem's file.
     pub file: &'a [u8],
-    /// What is reached of each query that is open.
-    pub reached: &'a [Option<Reached>],
+    /// What is told of each query.
+    pub details: &'a [Details],
     /// Which sentences clash, where some do.
     pub clash: &'a Option<Clash>,
+    /// The sentences on which no bound rests, where they are asked for.
+    pub unused: &'a Option<List<u32>>,
     /// The lines on which the sentences begin.
     pub lines: &'a [u32],
     /// Warnings about the problem.
@@ -83,6 +86,7 @@ fn write_end(
 {
     append(out, b"],\"clash\":")?;
     write_clash(alloc, out, problem, told.lines, told.clash)?;
+    write_unused_member(alloc, out, problem, told.lines, told.unused)?;
     append(out, b",\"counts\":")?;
     write_counts(out, problem, told.unfinished)?;
     write_warnings(out, told.warnings)?;
@@ -91,7 +95,8 @@ fn write_end(
 
 /// Writes the object of an answer to a problem behind what was written, on one line: the verdict,
 /// each query by its own text with its bounds, exact and as decimals rounded outward, or between
-/// which numbers they lie, which sentences clash, counts, warnings, and the status.
+/// which numbers they lie, and what is told of them, which sentences clash, on which no bound rests,
+/// counts, warnings, and the status.
 #[tactic(auto, unfolding(crate::specs::Objects::object))]
 pub fn write_object(
     alloc: Global,
@@ -110,6 +115,6 @@ pub fn write_object(
     write_verdict(out, &answer.verdict)?;
     append(out, b",\"queries\":[")?;
     let parts = answer.parts.as_slice();
-    write_queries(alloc, out, problem, parts, told.reached, told.digits)?;
+    write_queries(alloc, out, problem, parts, told.details, told.digits)?;
     write_end(alloc, out, problem, told)
 }

@@ -7,6 +7,7 @@ ghost use Rattle.ps_spoken.specs.Spoken.{answer_text, between_both, part_text};
 
 use crate::bounds::write_bounds;
 use crate::cause::write_cause;
+use crate::details::{Details, write_beneath};
 use crate::numbers::append;
 use crate::reached::{Reached, write_lower_between, write_upper_between};
 use ps_answer::{QueryAnswer, QueryPart};
@@ -62,23 +63,24 @@ fn write_query_answer(
 }
 
 /// Writes a query by its own text, and the answer to it, with what is reached of it where it is
-/// open.
+/// open, and what is told of its bounds.
 pub fn write_part(
     alloc: Global,
     out: &mut Vec<u8>,
     problem: &Problem,
     query: Query,
     part: &QueryPart,
-    reached: &Option<Reached>,
+    told: &Details,
     digits: u32,
 ) -> Result<(), NoMemory>
     requires query { HasNodes problem.now.nodes query.formula query.given query.both }
     requires some { 0 < digits }
     requires few { digits ≤ MOST_DIGITS }
     ensures { Puts result out.old out.new
-        (part_text digits problem.now query part.now reached.now) }
+        (part_text digits problem.now query part.now told.now) }
 {
     write_probability(alloc, problem, query.formula, query.given, out)?;
     append(out, b"\n")?;
-    write_query_answer(out, &part.answer, reached, digits)
+    write_query_answer(out, &part.answer, &told.reached, digits)?;
+    write_beneath(alloc, out, problem, told, digits)
 }

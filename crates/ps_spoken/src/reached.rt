@@ -1,5 +1,5 @@
 //! Between which numbers the bounds of a query lie that aren't known, for people.
-ghost use Rattle.std.specs.Prelude.{◌≡◌, ◌<◌, ◌≤◌, None, get_or};
+ghost use Rattle.std.specs.Prelude.{◌<◌, ◌≤◌};
 ghost use Rattle.ps_frac.specs.declared.limits.TheConstants.{MOST_DIGITS};
 ghost use Rattle.ps_spoken.specs.Numbers.{Says};
 ghost use Rattle.ps_spoken.specs.Reached.{lower_between, upper_between};
@@ -16,17 +16,6 @@ pub struct Reached {
     pub least: Fraction,
     /// The greatest one.
     pub greatest: Fraction,
-}
-
-/// What is reached of the query at a place; nothing where none is told of.
-pub(crate) fn reached_at(reached: &[Option<Reached>], place: usize) -> Option<Reached>
-    ensures { result ≡ get_or reached.now place None }
-{
-    if place < reached.len() {
-        reached[place]
-    } else {
-        None
-    }
 }
 
 /// Writes between which numbers a lower bound lies that isn't known.

@@ -11,12 +11,15 @@ use Rattle.psat_ask.specs.declared.options.Valued.TheVariants.{Digits, Pivots, C
 use Rattle.psat_ask.specs.Numbers.{Spells, SpellsNone}
 use Rattle.psat_ask.specs.Kinds.{all_kinds}
 
--- the settings without options: 10,000 pivots, 20,000 conflicts, six digits, words, no report, warnings, no limit of time
+-- the settings without options: 10,000 pivots, 20,000 conflicts, six digits, words, nothing beneath bounds, no report, warnings,
+-- no limit of time
 abbrev pub usual_settings : Settings
 usual_settings = record {
   limits = record { pivots = 10000; conflicts = 20000 };
   digits = 6;
   style = Words;
+  tells_support = false;
+  tells_examples = false;
   reports = false;
   warns = all_kinds;
   is_timed = false;

@@ -73,6 +73,10 @@ TakesJoined name value old new = SetsJoined name value (choices_of old) (choices
 pub data SetsFlag (word : List ℕ) (old new : Choices) : Type 0 where
   Quiet : word ≡ codes "--quiet" → Changes (SetsStyle style.Values) old new → SetsFlag word old new
   Object : word ≡ codes "--json" → Changes (SetsStyle style.Json) old new → SetsFlag word old new
+  Why : word ≡ codes "--why" → new ≡ record old { settings = record old.settings { tells_support = true } }
+      → SetsFlag word old new
+  ShowsExamples : word ≡ codes "--example" → new ≡ record old { settings = record old.settings { tells_examples = true } }
+      → SetsFlag word old new
   NoWarnings : word ≡ codes "--no-warnings" → new ≡ record old { settings = record old.settings { warns = no_kinds } }
       → SetsFlag word old new
   NoProgress : word ≡ codes "--no-progress" → new ≡ record old { progress = false } → SetsFlag word old new

@@ -6,10 +6,12 @@ use std::alloc::{AllocError, Global};
 use strsim::osa_distance;
 
 /// The options that are known.
-const OPTIONS: [&str; 11] = [
+const OPTIONS: [&str; 13] = [
     "--digits",
     "--quiet",
     "--json",
+    "--why",
+    "--example",
     "--report",
     "--pivots",
     "--conflicts",

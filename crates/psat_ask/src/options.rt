@@ -71,6 +71,8 @@ pub fn default_settings() -> Settings
         },
         digits: 6,
         style: Style::Words,
+        tells_support: false,
+        tells_examples: false,
         reports: false,
         warns: Wanted {
             or: true,

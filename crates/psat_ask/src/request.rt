@@ -209,6 +209,14 @@ impl Reading {
         match word {
             "--quiet" => self.style(Style::Values),
             "--json" => self.style(Style::Json),
+            "--why" => {
+                self.asked.settings.tells_support = true;
+                Ok(())
+            }
+            "--example" => {
+                self.asked.settings.tells_examples = true;
+                Ok(())
+            }
             "--no-warnings" => {
                 self.asked.settings.warns = no_kinds();
                 Ok(())
@@ -221,8 +229,20 @@ impl Reading {
         }
     }
 
+    // Reads an option that sets something by itself.
+    #[tactic(auto, using(crate::proofs::RequestLaws::took_flag))]
+    fn set_flag(&mut self, alloc: Global, word: &str) -> Result<Option<Request>, Refused>
+        requires settings { AreSettings self.old.asked.settings }
+        requires next { self.old.next ≡ next.Word }
+        ensures settings { AreSettings self.new.asked.settings }
+        ensures took { TookOr result word.now self.old self.new }
+    {
+        self.flag(alloc, word)?;
+        Ok(None)
+    }
+
     // Reads an option without a value, or what stands in the place of one.
-    #[tactic(auto, using(crate::proofs::RequestLaws::took_option, crate::proofs::RequestLaws::took_end, crate::proofs::RequestLaws::took_flag))]
+    #[tactic(auto, using(crate::proofs::RequestLaws::took_option, crate::proofs::RequestLaws::took_end))]
     fn sole(&mut self, alloc: Global, word: &str) -> Result<Option<Request>, Refused>
         requires settings { AreSettings self.old.asked.settings }
         requires next { self.old.next ≡ next.Word }
@@ -234,12 +254,14 @@ impl Reading {
             return Ok(None);
         }
         match word {
-            "--help" | "-h" => return Ok(Some(Request::Help)),
-            "--version" | "-V" => return Ok(Some(Request::Version)),
-            "--" => self.next = Next::File,
-            _ => self.flag(alloc, word)?,
+            "--help" | "-h" => Ok(Some(Request::Help)),
+            "--version" | "-V" => Ok(Some(Request::Version)),
+            "--" => {
+                self.next = Next::File;
+                Ok(None)
+            }
+            _ => self.set_flag(alloc, word),
         }
-        Ok(None)
     }
 
     // Reads an option.

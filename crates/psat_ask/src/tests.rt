@@ -143,6 +143,20 @@ fn is_without_two(asked: Option<Asked>) -> bool {
     }
 }
 
+// Whether words ask for the sentences on which bounds rest, and for distributions that reach them.
+fn details_asked(alloc: Global, words: &[&'static str]) -> Option<(bool, bool)> {
+    let settings = asked(alloc, words)?.settings;
+    Some((settings.tells_support, settings.tells_examples))
+}
+
+#[test]
+fn what_stands_beneath_bounds_is_asked_for(rt: HostRuntime) -> Result<(), Fail> {
+    assert!(rt; details_asked(rt.alloc(), &["--why", "a"]) == Some((true, false)));
+    assert!(rt; details_asked(rt.alloc(), &["a", "--example"]) == Some((false, true)));
+    assert!(rt; details_asked(rt.alloc(), &["--example", "--why"]) == Some((true, true)));
+    Ok(())
+}
+
 #[test]
 fn kinds_of_warnings_are_left_out(rt: HostRuntime) -> Result<(), Fail> {
     let alloc = rt.alloc();

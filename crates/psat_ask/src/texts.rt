@@ -20,6 +20,9 @@ Options:
   --digits N      digits of decimals behind the point, 1 to 18 (6)
   --quiet         the verdict and the values alone; --quiet=exact as fractions
   --json          one JSON object for each problem, on one line
+  --why           beneath each bound the sentences on which it rests, and how far it
+                  moves with their numbers; at the end those on which none rests
+  --example       beneath each bound a distribution that reaches it
   --report FILE   write the report that psat check accepts to FILE as well, whole or
                   not at all
   --report -      write that report alone

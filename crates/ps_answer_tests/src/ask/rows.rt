@@ -115,6 +115,26 @@ P(a given a | b | c)
   between 1/3 and 1 (0.333 to 1.000)
 ";
 
+// Bounds that say nothing, small distances from 0, from 1 and between bounds, and long fractions.
+const DISTANCES: &[u8] = b"psat 1; P(a | b) >= 1/2; P(c) = 1/2000; P(d) = 9999/10000;
+P(e) in [1/3, 0.3335]; P(f) = 1/1000000; P(g given f) = 1/1000; P(h given f) in [1/1000, 1/500];
+query P(a); query P(c); query P(d); query P(e); query P(f & g); query P(f & h); end;";
+
+const DISTANCES_WORDS: &str = "consistent: some distribution meets all sentences
+P(a)
+  nothing follows: anything from 0 to 1
+P(c)
+  one value: 1/2000 (0.000500 to 0.000500)
+P(d)
+  one value: 9999/10000 (0.999900 to 0.999900)
+P(e)
+  between 1/3 and 667/2000 (0.333333 to 0.333500)
+P(f & g)
+  one value: 0.000000001 to 0.000000001 (1/1000000000)
+P(f & h)
+  between 0.000000001 and 0.000000002 (1/1000000000 to 1/500000000)
+";
+
 const NOTE: &str = "f:1:13: found `b`, expected `&`, `|`, `->`, `<->`, `given` or `)`
   psat 1; P(a b) = 1; end;
               ^
@@ -153,7 +173,7 @@ pub struct Row {
     pub status: Status,
 }
 
-pub const ROWS: [Row; 15] = [
+pub const ROWS: [Row; 16] = [
     Row {
         text: PROBLEM,
         style: Style::Words,
@@ -228,6 +248,13 @@ pub const ROWS: [Row; 15] = [
         text: RANKED,
         style: Style::Words,
         shown: RANKED_WORDS,
+        noted: "",
+        status: Status::Done,
+    },
+    Row {
+        text: DISTANCES,
+        style: Style::Words,
+        shown: DISTANCES_WORDS,
         noted: "",
         status: Status::Done,
     },

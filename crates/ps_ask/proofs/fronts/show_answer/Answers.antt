@@ -14,7 +14,7 @@ returns-in-Ok-show_parts_under-clause-whole g c =
 
 pub returns-in-Ok-show_parts_under-clause-wrote : goal.returns-in-Ok-show_parts_under-clause-wrote
 returns-in-Ok-show_parts_under-clause-wrote g c =
-    answer_wrote c.args.settings c.args.trials.now c.in-Ok.verdict c.in-Ok.first c.in-Ok-show_parts_under.parts c.in-Ok-show_parts_under.reached (g.O.Sink.written c.args.sink.now)
+    answer_wrote c.args.settings c.args.trials.now c.in-Ok.verdict c.in-Ok.first c.in-Ok-show_parts_under.parts c.in-Ok-show_parts_under.details (g.O.Sink.written c.args.sink.now)
     (g.O.Sink.written c.show_verdict.new.sink) (g.O.Sink.written c.show_parts_under.new.sink) c.in-Ok.ensures.wrote c.in-Ok-show_parts_under.ensures.wrote
 
 pub returns-in-Ok-show_parts_under-clause-short : goal.returns-in-Ok-show_parts_under-clause-short

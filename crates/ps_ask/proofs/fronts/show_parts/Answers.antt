@@ -10,7 +10,7 @@ use Rattle.ps_ask.proofs.StepLaws.{nothing_shown}
 use Rattle.ps_ask.proofs.fronts.show_parts.Goals as goal
 
 pub loop-query-init : goal.loop-query-init
-loop-query-init g c = rw (c.new-parts.ensures, c.new-reached.ensures) (record {
+loop-query-init g c = rw (c.new-parts.ensures, c.new-details.ensures) (record {
   parts = parts_begin c.args.settings c.args.trials.now;
   written = nothing_shown c.args.settings.style c.args.settings.digits c.args.trials.now [] (g.O.Sink.written c.args.sink.now);
   rounds = c.in-Ok.ensures c.args.settings c.args.trials.now;
@@ -23,7 +23,7 @@ returns-then-is_err-clause-ended g c =
     let p = c.args.trials.now in
     let i = c.loop-query.query-index in
     let parts = c.loop-query.parts in
-    let rs = c.loop-query.reached in
+    let rs = c.loop-query.details in
     let part = c.in-Ok-show_part.part in
     let told = c.in-Ok-show_part.told in
     let same : c.as_slice-queries.result.now ≡ p.queries = search rules in
@@ -33,7 +33,7 @@ returns-then-is_err-clause-ended g c =
     let piece = part_piece s.style s.digits p q part told in
     some_ended (ArePiecesFor s p p.queries) (g.O.Sink.written c.args.sink.now) (g.O.Sink.written c.show_part.new.sink) (pieces ++ piece)
     (pieces_more s p i parts rs q _ c.loop-query.invariant.parts (ap (λ (qs : List Query). get_or qs i _) same) lt piece
-    (record { part = part; reached = told; shown = c.in-Ok-show_part.ensures.judged; told = c.in-Ok-show_part.ensures.reached; is = refl }))
+    (record { part = part; details = told; shown = c.in-Ok-show_part.ensures.judged; told = c.in-Ok-show_part.ensures.details; asked = c.in-Ok-show_part.ensures.asked; is = refl }))
     (appends-then (g.O.Sink.written c.args.sink.now) (g.O.Sink.written c.loop-query.sink) (g.O.Sink.written c.show_part.new.sink) pieces piece
     c.loop-query.invariant.written c.in-Ok-show_part.ensures.wrote)
 
@@ -43,7 +43,7 @@ returns-in-Err-clause-ended g c =
     let p = c.args.trials.now in
     let i = c.loop-query.query-index in
     let parts = c.loop-query.parts in
-    let rs = c.loop-query.reached in
+    let rs = c.loop-query.details in
     let same : c.as_slice-queries.result.now ≡ p.queries = search rules in
     let lt : i < length p.queries = subst (λ (qs : List Query). i < length qs) same c.loop-query-test.true in
     let q = get_or c.as_slice-queries.result.now i _ in
@@ -58,7 +58,7 @@ loop-query-preserved g c =
     let p = c.args.trials.now in
     let i = c.loop-query.query-index in
     let parts = c.loop-query.parts in
-    let rs = c.loop-query.reached in
+    let rs = c.loop-query.details in
     let part = c.in-Ok-show_part.part in
     let told = c.in-Ok-show_part.told in
     let same : c.as_slice-queries.result.now ≡ p.queries = search rules in
@@ -66,9 +66,10 @@ loop-query-preserved g c =
     let q = get_or c.as_slice-queries.result.now i _ in
     let there = ap (λ (qs : List Query). get_or qs i _) same in
     let pushed : c.add_part.new.parts ≡ parts ++ part ∷ [] = search rules in
-    let noted : c.add_part.new.reached ≡ rs ++ told ∷ [] = search rules in
+    let noted : c.add_part.new.details ≡ rs ++ told ∷ [] = search rules in
     rw (pushed, noted) (record {
-      parts = parts_next s p i parts rs q _ c.loop-query.invariant.parts there lt part told c.in-Ok-show_part.ensures.judged c.in-Ok-show_part.ensures.reached;
+      parts = parts_next s p i parts rs q _ c.loop-query.invariant.parts there lt part told c.in-Ok-show_part.ensures.judged c.in-Ok-show_part.ensures.details
+          c.in-Ok-show_part.ensures.asked;
       written = rw (text_next s p i parts rs q _ c.loop-query.invariant.parts there lt part told)
           (appends-then (g.O.Sink.written c.args.sink.now) (g.O.Sink.written c.loop-query.sink) (g.O.Sink.written c.show_part.new.sink)
           (parts_pieces s.style s.digits p parts rs) (part_piece s.style s.digits p q part told) c.loop-query.invariant.written c.in-Ok-show_part.ensures.wrote);

@@ -1,0 +1,4 @@
+pub mod Books
+pub mod Sums
+pub mod CommonUnits
+pub mod ScaledRows
